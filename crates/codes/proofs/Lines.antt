@@ -1,0 +1,351 @@
+-- The six families of equations as lines: each line goes once through the cells that its equation sums.
+use mathlib.Core.Path.{_≡_, refl, sym, ap, ap₂, _∙_, subst}
+use mathlib.Core.Logic.{_≢_}
+use mathlib.Core.Bool.{true, not, _&&_}
+use Prim.Native.Nat.{ℕ, _+_, _-_, _*_, _/_, _%_, _≤_, _<_}
+use native.Mathlib.Nat.{mod-lt, mod-eq-of-lt, mod-add-mod, add-mod-mod, div-lt-iff-lt-mul, div-add-mod', add-comm}
+use native.Mathlib.Omega.{arith}
+use lib.Arith.{digits-lt, digits-div, digits-mod}
+use lib.Dec.{eqb, ltb}
+use borrow.Author.Tests.{lt-ltb, le-ltb, eq-eqb, ne-eqb, ltb-true, eqb-true, eqb-false, not-true}
+use Rattle.xor.proofs.Cases.{by-equal, and-left, and-right, and-both}
+use Rattle.xor.proofs.Sums.{Lists, xors-listed}
+use Rattle.codes.specs.declared.Shape.{Shape}
+use Rattle.codes.specs.declared.Line.{Line}
+use Rattle.codes.specs.Shape.{rows, columns, cells, cellNumber, equations, WellFormed}
+use Rattle.codes.specs.Equations.{Equation, equation, rdpRow, rdpDiagonal, hcodeRow, hcodeAntiDiagonal, xcodeFirst, xcodeSecond}
+use Rattle.codes.specs.Encoded.{parityCell, sumsCell, sumOver}
+use Rattle.codes.specs.Lines.{lineCell, Walks}
+use Rattle.codes.proofs.Shapes.{low, high, rows-low, rows-third, columns-third, rows-other, columns-other, equations-other}
+use Rattle.codes.proofs.Residues.{there-and-back, steps-back, turns}
+
+-- row and column of cell k
+abbrev lineRow : Line → ℕ → ℕ
+lineRow l k = l .row + l .fall * k
+
+abbrev lineColumn : ℕ → Line → ℕ → ℕ
+lineColumn p l k = (l .column + l .step * k) % p
+
+-- a line that falls from row 0 on, and one along row r
+abbrev pub fallen : ℕ → ℕ → ℕ → ℕ → Line
+fallen parity count column step = record { parity = parity; count = count; row = 0; fall = 1; column = column; step = step }
+
+abbrev pub flat : ℕ → ℕ → ℕ → ℕ → Line
+flat parity count r column = record { parity = parity; count = count; row = r; fall = 0; column = column; step = 1 }
+
+-- the line goes through the cells (i, j) that pass the test, once through each
+record Through (s : Shape) (e : Equation) (l : Line) : Type 0 where
+  parity : l .parity ≡ e .column * rows s + e .row
+  few : l .count ≤ 30
+  low′ : l .row + l .fall * l .count ≤ 62
+  column : l .column < s .p
+  step : l .step < s .p
+  in-row : (k : ℕ) → k < l .count → lineRow l k < rows s
+  passes : (k : ℕ) → k < l .count → e .sums (lineRow l k) (lineColumn (s .p) l k) ≡ true
+  all : (i j : ℕ) → i < rows s → j < columns s → e .sums i j ≡ true → (k : ℕ) × (k < l .count) × (lineRow l k ≡ i) × (lineColumn (s .p) l k ≡ j)
+  once : (j k : ℕ) → j < l .count → k < l .count → lineRow l j ≡ lineRow l k → lineColumn (s .p) l j ≡ lineColumn (s .p) l k → j ≡ k
+
+module _ (s : Shape) (w : WellFormed s) where
+  few-columns : s .p ≤ columns s
+  few-columns = by-equal (s .code) 3 (λ e. omega (arith, columns-third s e)) (λ n. omega (arith, columns-other s w n))
+
+  module _ (q : ℕ) (e : Equation) (l : Line) (is : equation s q ≡ e) (h : Through s e l) where
+    in-column : (k : ℕ) → lineColumn (s .p) l k < columns s
+    in-column k = let small : lineColumn (s .p) l k < s .p = mod-lt (l .column + l .step * k) (omega (arith, low s w)) in omega (arith, few-columns)
+
+    row-of : (k : ℕ) → k < l .count → lineCell s l k % rows s ≡ lineRow l k
+    unfolding lineCell cellNumber
+    row-of k lk = digits-mod (lineColumn (s .p) l k) (h .in-row k lk)
+
+    column-of : (k : ℕ) → k < l .count → lineCell s l k / rows s ≡ lineColumn (s .p) l k
+    unfolding lineCell cellNumber
+    column-of k lk = digits-div (lineColumn (s .p) l k) (h .in-row k lk)
+
+    sums-is : (c : ℕ) → sumsCell s q c ≡ e .sums (c % rows s) (c / rows s)
+    unfolding sumsCell
+    sums-is c = ap (λ (x : Equation). x .sums (c % rows s) (c / rows s)) is
+
+    lists : Lists (cells s) (sumsCell s q) (l .count) (lineCell s l)
+    unfolding cells lineCell cellNumber
+    lists = record {
+      below = λ k lk. digits-lt (in-column k) (h .in-row k lk);
+      passes = λ k lk. sums-is (lineCell s l k) ∙ ap₂ (λ (i j : ℕ). e .sums i j) (row-of k lk) (column-of k lk) ∙ h .passes k lk;
+      all = λ c lc p.
+          let found = h .all (c % rows s) (c / rows s) (mod-lt c (omega (arith, rows-low s w))) (div-lt-iff-lt-mul (omega (arith, rows-low s w)) .1 lc) (sym (sums-is c) ∙ p) in
+          (found .0, found .1, ap₂ (λ (i j : ℕ). j * rows s + i) (found .2) (found .3) ∙ div-add-mod' c (rows s));
+      once = λ j k lj lk same.
+          h .once j k lj lk (sym (row-of j lj) ∙ ap (λ (c : ℕ). c % rows s) same ∙ row-of k lk) (sym (column-of j lj) ∙ ap (λ (c : ℕ). c / rows s) same ∙ column-of k lk);
+    }
+
+    walks : Walks s q l
+    unfolding sumOver parityCell cellNumber
+    walks = record {
+      parity = h .parity ∙ ap (λ (x : Equation). x .column * rows s + x .row) (sym is);
+      lies = record { few = h .few; low = h .low′; column = h .column; step = h .step; inside = lists .below };
+      summed = lists .passes;
+      sum = xors-listed (cells s) (sumsCell s q) (l .count) (lineCell s l) lists;
+    }
+
+  -- ---- lines that fall: row k holds cell k
+
+  module _ (e : Equation) (parity count column step : ℕ) where
+    falling : parity ≡ e .column * rows s + e .row → count ≤ 30 → count ≤ rows s → column < s .p → step < s .p
+        → ((k : ℕ) → k < count → e .sums k ((column + step * k) % s .p) ≡ true)
+        → ((i j : ℕ) → i < rows s → j < columns s → e .sums i j ≡ true → (i < count) × ((column + step * i) % s .p ≡ j))
+        → Through s e (fallen parity count column step)
+    falling par few short lc ls pass every = record {
+      parity = par;
+      few = few;
+      low′ = omega arith;
+      column = lc;
+      step = ls;
+      in-row = λ k lk. omega arith;
+      passes = λ k lk. ap (λ (i : ℕ). e .sums i ((column + step * k) % s .p)) (row-is k) ∙ pass k lk;
+      all = λ i j li lj p. (i, every i j li lj p .0, row-is i, every i j li lj p .1);
+      once = λ j k lj lk r c. sym (row-is j) ∙ r ∙ row-is k;
+    }
+      where
+        row-is : (k : ℕ) → 0 + 1 * k ≡ k
+        row-is k = omega arith
+
+  -- ---- lines along a row
+
+  module _ (e : Equation) (parity count r column : ℕ) where
+    along : parity ≡ e .column * rows s + e .row → count ≤ 30 → r < rows s → r ≤ 31 → column < s .p
+        → ((k : ℕ) → k < count → e .sums r ((column + 1 * k) % s .p) ≡ true)
+        → ((i j : ℕ) → i < rows s → j < columns s → e .sums i j ≡ true → (k : ℕ) × (k < count) × (i ≡ r) × ((column + 1 * k) % s .p ≡ j))
+        → ((j k : ℕ) → j < count → k < count → (column + 1 * j) % s .p ≡ (column + 1 * k) % s .p → j ≡ k)
+        → Through s e (flat parity count r column)
+    along par few lr hr lc pass every one = record {
+      parity = par;
+      few = few;
+      low′ = omega arith;
+      column = lc;
+      step = omega (arith, low s w);
+      in-row = λ k lk. omega arith;
+      passes = λ k lk. ap (λ (i : ℕ). e .sums i ((column + 1 * k) % s .p)) (row-is k) ∙ pass k lk;
+      all = λ i j li lj p. let found = every i j li lj p in (found .0, found .1, row-is (found .0) ∙ sym (found .2), found .3);
+      once = λ j k lj lk same c. one j k lj lk c;
+    }
+      where
+        row-is : (k : ℕ) → r + 0 * k ≡ r
+        row-is k = omega arith
+
+  -- ---- RDP
+
+  module _ (is-rdp : s .code ≡ 1) where
+    rdp-rows : s .p - 1 ≡ rows s
+    rdp-rows = rows-other s w (λ e. omega arith)
+
+    rdp-row-is : (q : ℕ) → q < s .p - 1 → equation s q ≡ rdpRow (s .p) q
+    unfolding equation
+    rdp-row-is q l = rw (is-rdp, lt-ltb q (s .p - 1) l) refl
+
+    rdp-diagonal-is : (q : ℕ) → s .p - 1 ≤ q → equation s q ≡ rdpDiagonal (s .p) (q - (s .p - 1))
+    unfolding equation
+    rdp-diagonal-is q l = rw (is-rdp, le-ltb q (s .p - 1) l) refl
+
+    pub rdp-row : (q : ℕ) → q < s .p - 1 → Walks s q (flat ((s .p - 1) * (s .p - 1) + q) (s .p - 1) q 0)
+    rdp-row q l =
+        walks q (rdpRow (s .p) q) _ (rdp-row-is q l)
+        (along (rdpRow (s .p) q) ((s .p - 1) * (s .p - 1) + q) (s .p - 1) q 0
+        (ap (λ (n : ℕ). (s .p - 1) * n + q) rdp-rows) (omega (arith, high s w)) (omega (arith, rdp-rows)) (omega (arith, high s w)) (omega (arith, low s w))
+        (λ k lk. and-both (eq-eqb q q refl) (lt-ltb ((0 + 1 * k) % s .p) (s .p - 1) (subst (λ (n : ℕ). n < s .p - 1) (sym (column-is k lk)) lk)))
+        (λ i j li lj p.
+        let lj′ : j < s .p - 1 = ltb-true j (s .p - 1) (and-right (eqb i q) (ltb j (s .p - 1)) p) in
+        (j, lj′, eqb-true i q (and-left (eqb i q) (ltb j (s .p - 1)) p), column-is j lj′))
+        (λ j k lj lk c. sym (column-is j lj) ∙ c ∙ column-is k lk))
+      where
+        column-is : (k : ℕ) → k < s .p - 1 → (0 + 1 * k) % s .p ≡ k
+        column-is k lk = ap (λ (n : ℕ). n % s .p) (plain k) ∙ mod-eq-of-lt (omega arith)
+          where
+            plain : (n : ℕ) → 0 + 1 * n ≡ n
+            plain n = omega arith
+
+    pub rdp-diagonal : (q : ℕ) → s .p - 1 ≤ q → q < equations s
+        → Walks s q (fallen (s .p * (s .p - 1) + (q - (s .p - 1))) (s .p - 1) (q - (s .p - 1)) (s .p - 1))
+    rdp-diagonal q lo hi =
+        walks q (rdpDiagonal (s .p) d) _ (rdp-diagonal-is q lo)
+        (falling (rdpDiagonal (s .p) d) (s .p * (s .p - 1) + d) (s .p - 1) d (s .p - 1)
+        (ap (λ (n : ℕ). s .p * n + d) rdp-rows) (omega (arith, high s w)) (omega (arith, rdp-rows)) (omega (arith, d-small)) (omega (arith, low s w))
+        (λ k lk.
+        and-both (lt-ltb ((d + (s .p - 1) * k) % s .p) (s .p) (mod-lt (d + (s .p - 1) * k) pos))
+        (and-both (lt-ltb k (s .p - 1) lk) (eq-eqb ((k + (d + (s .p - 1) * k) % s .p) % s .p) d (on k))))
+        (λ i j li lj p.
+        let rest = and-right (ltb j (s .p)) (ltb i (s .p - 1) && eqb ((i + j) % s .p) d) p in (
+          ltb-true i (s .p - 1) (and-left (ltb i (s .p - 1)) (eqb ((i + j) % s .p) d) rest),
+          back i j (ltb-true j (s .p) (and-left (ltb j (s .p)) (ltb i (s .p - 1) && eqb ((i + j) % s .p) d) p)) (eqb-true ((i + j) % s .p) d (and-right (ltb i (s .p - 1)) (eqb ((i + j) % s .p) d) rest)),
+        ))
+        )
+      where
+        d : ℕ
+        d = q - (s .p - 1)
+
+        pos : 0 < s .p
+        pos = omega (arith, low s w)
+
+        d-small : d < s .p - 1
+        d-small = omega (arith, equations-other s w (λ e. omega arith))
+
+        -- cell k is on diagonal d
+        on : (k : ℕ) → (k + (d + (s .p - 1) * k) % s .p) % s .p ≡ d
+        on k = add-mod-mod k (d + (s .p - 1) * k) (s .p) ∙ ap (λ (n : ℕ). n % s .p) whole ∙ turns (s .p) k d ∙ mod-eq-of-lt (omega (arith, d-small))
+          where
+            whole : k + (d + (s .p - 1) * k) ≡ k * s .p + d
+            whole = omega (arith, steps-back (s .p) k pos)
+
+        -- a cell of diagonal d is where the line passes its row
+        back : (i j : ℕ) → j < s .p → (i + j) % s .p ≡ d → (d + (s .p - 1) * i) % s .p ≡ j
+        back i j lj h = ap (λ (n : ℕ). (n + (s .p - 1) * i) % s .p) (sym h) ∙ mod-add-mod (i + j) (s .p) ((s .p - 1) * i) ∙ ap (λ (n : ℕ). n % s .p) whole ∙ turns (s .p) i j ∙ mod-eq-of-lt lj
+          where
+            whole : i + j + (s .p - 1) * i ≡ i * s .p + j
+            whole = omega (arith, steps-back (s .p) i pos)
+
+  -- ---- H-Code: both families start in the column after their parity column's next, r + 2
+
+  module _ (is-hcode : s .code ≡ 2) where
+    hcode-rows : s .p - 1 ≡ rows s
+    hcode-rows = rows-other s w (λ e. omega arith)
+
+    hcode-row-is : (q : ℕ) → q < s .p - 1 → equation s q ≡ hcodeRow (s .p) q
+    unfolding equation
+    hcode-row-is q l = rw (is-hcode, lt-ltb q (s .p - 1) l) refl
+
+    hcode-anti-is : (q : ℕ) → s .p - 1 ≤ q → equation s q ≡ hcodeAntiDiagonal (s .p) (q - (s .p - 1))
+    unfolding equation
+    hcode-anti-is q l = rw (is-hcode, le-ltb q (s .p - 1) l) refl
+
+    module _ (r : ℕ) (lr : r < s .p - 1) (column : ℕ) (starts : column ≡ (r + 2) % s .p) where
+      pos : 0 < s .p
+      pos = omega (arith, low s w)
+
+      -- how far column r + 2 is from p
+      y : ℕ
+      y = s .p - 2 - r
+
+      whole : (r + 2) + y ≡ s .p
+      unfolding y
+      whole = omega arith
+
+      column-small : column < s .p
+      column-small = subst (λ (n : ℕ). n < s .p) (sym starts) (mod-lt (r + 2) pos)
+
+      column-is : (k : ℕ) → (column + 1 * k) % s .p ≡ (k + (r + 2)) % s .p
+      column-is k = ap (λ (n : ℕ). (n + 1 * k) % s .p) starts ∙ mod-add-mod (r + 2) (s .p) (1 * k) ∙ ap (λ (n : ℕ). n % s .p) same
+        where
+          same : r + 2 + 1 * k ≡ k + (r + 2)
+          same = omega arith
+
+      inside : (k : ℕ) → (column + 1 * k) % s .p < s .p
+      inside k = mod-lt (column + 1 * k) pos
+
+      -- from the column back to k, and from a column j to its k
+      back : (k : ℕ) → k < s .p → ((column + 1 * k) % s .p + y) % s .p ≡ k
+      back k lk = ap (λ (n : ℕ). (n + y) % s .p) (column-is k) ∙ there-and-back (s .p) k (r + 2) y lk whole
+
+      forth : (j : ℕ) → j < s .p → (column + 1 * ((j + y) % s .p)) % s .p ≡ j
+      forth j lj = column-is ((j + y) % s .p) ∙ there-and-back (s .p) j y (r + 2) lj (add-comm y (r + 2) ∙ whole)
+
+      -- the column r + 1 comes last, at k = p - 1, where the line has ended
+      last : (r + 1 + y) % s .p ≡ s .p - 1
+      last = ap (λ (n : ℕ). n % s .p) end ∙ mod-eq-of-lt (omega (arith, pos))
+        where
+          end : r + 1 + y ≡ s .p - 1
+          end = omega (arith, whole)
+
+      misses : (k : ℕ) → k < s .p - 1 → (column + 1 * k) % s .p ≢ r + 1
+      misses k lk e = let z : k ≡ s .p - 1 = sym (back k (omega arith)) ∙ ap (λ (n : ℕ). (n + y) % s .p) e ∙ last in omega arith
+
+      ends : (j : ℕ) → j < s .p → j ≢ r + 1 → (j + y) % s .p < s .p - 1
+      ends j lj n =
+          by-equal ((j + y) % s .p) (s .p - 1)
+          (λ e. absurd (n (sym (forth j lj) ∙ ap (λ (k : ℕ). (column + 1 * k) % s .p) (e ∙ sym last) ∙ forth (r + 1) (omega arith))))
+          (λ e. let small = mod-lt (j + y) pos in omega arith)
+
+      hcode-row′ : equation s r ≡ hcodeRow (s .p) r → Walks s r (flat (s .p * (s .p - 1) + r) (s .p - 1) r column)
+      hcode-row′ is =
+          walks r (hcodeRow (s .p) r) _ is
+          (along (hcodeRow (s .p) r) (s .p * (s .p - 1) + r) (s .p - 1) r column
+          (ap (λ (n : ℕ). s .p * n + r) hcode-rows) (omega (arith, high s w)) (omega (arith, hcode-rows)) (omega (arith, high s w)) column-small
+          (λ k lk. and-both (eq-eqb r r refl) (and-both (lt-ltb ((column + 1 * k) % s .p) (s .p) (inside k)) (ap not (ne-eqb ((column + 1 * k) % s .p) (r + 1) (misses k lk)))))
+          (λ i j li lj p.
+          let rest = and-right (eqb i r) (ltb j (s .p) && not (eqb j (r + 1))) p in
+          let lj′ : j < s .p = ltb-true j (s .p) (and-left (ltb j (s .p)) (not (eqb j (r + 1))) rest) in
+          let other : j ≢ r + 1 = eqb-false j (r + 1) (not-true (eqb j (r + 1)) (and-right (ltb j (s .p)) (not (eqb j (r + 1))) rest)) in
+          ((j + y) % s .p, ends j lj′ other, eqb-true i r (and-left (eqb i r) (ltb j (s .p) && not (eqb j (r + 1))) p), forth j lj′))
+          (λ j k lj lk c. sym (back j (omega arith)) ∙ ap (λ (n : ℕ). (n + y) % s .p) c ∙ back k (omega arith)))
+
+      hcode-anti′ : (q : ℕ) → equation s q ≡ hcodeAntiDiagonal (s .p) r → Walks s q (fallen ((r + 1) * (s .p - 1) + r) (s .p - 1) column 1)
+      unfolding y
+      hcode-anti′ q is =
+          walks q (hcodeAntiDiagonal (s .p) r) _ is
+          (falling (hcodeAntiDiagonal (s .p) r) ((r + 1) * (s .p - 1) + r) (s .p - 1) column 1
+          (ap (λ (n : ℕ). (r + 1) * n + r) hcode-rows) (omega (arith, high s w)) (omega (arith, hcode-rows)) column-small (omega (arith, low s w))
+          (λ k lk.
+          and-both (lt-ltb ((column + 1 * k) % s .p) (s .p) (inside k))
+          (and-both (ap not (ne-eqb ((column + 1 * k) % s .p) (r + 1) (misses k lk)))
+          (eq-eqb k ((s .p - 2 - r + (column + 1 * k) % s .p) % s .p) (sym (ap (λ (n : ℕ). n % s .p) (add-comm (s .p - 2 - r) ((column + 1 * k) % s .p)) ∙ back k (omega arith))))))
+          (λ i j li lj p.
+          let lj′ : j < s .p = ltb-true j (s .p) (and-left (ltb j (s .p)) (not (eqb j (r + 1)) && eqb i ((s .p - 2 - r + j) % s .p)) p) in
+          let at : i ≡ (s .p - 2 - r + j) % s .p = eqb-true i ((s .p - 2 - r + j) % s .p)
+          (and-right (not (eqb j (r + 1))) (eqb i ((s .p - 2 - r + j) % s .p)) (and-right (ltb j (s .p)) (not (eqb j (r + 1)) && eqb i ((s .p - 2 - r + j) % s .p)) p)) in
+          (omega (arith, hcode-rows), ap (λ (n : ℕ). (column + 1 * n) % s .p) (at ∙ ap (λ (n : ℕ). n % s .p) (add-comm (s .p - 2 - r) j)) ∙ forth j lj′)))
+
+    pub hcode-row : (q column : ℕ) → q < s .p - 1 → column ≡ (q + 2) % s .p → Walks s q (flat (s .p * (s .p - 1) + q) (s .p - 1) q column)
+    hcode-row q column l starts = hcode-row′ q l column starts (hcode-row-is q l)
+
+    pub hcode-anti : (q column : ℕ) → s .p - 1 ≤ q → q < equations s → column ≡ (q - (s .p - 1) + 2) % s .p
+        → Walks s q (fallen ((q - (s .p - 1) + 1) * (s .p - 1) + (q - (s .p - 1))) (s .p - 1) column 1)
+    hcode-anti q column lo hi starts = hcode-anti′ (q - (s .p - 1)) (omega (arith, equations-other s w (λ e. omega arith))) column starts q (hcode-anti-is q lo)
+
+  -- ---- X-Code
+
+  module _ (is-xcode : s .code ≡ 3) where
+    xcode-first-is : (q : ℕ) → q < s .p → equation s q ≡ xcodeFirst (s .p) q
+    unfolding equation
+    xcode-first-is q l = rw (is-xcode, lt-ltb q (s .p) l) refl
+
+    xcode-second-is : (q : ℕ) → s .p ≤ q → equation s q ≡ xcodeSecond (s .p) (q - s .p)
+    unfolding equation
+    xcode-second-is q l = rw (is-xcode, le-ltb q (s .p) l) refl
+
+    -- a family of X-Code: in row k below p - 2 it sums the cell of one column
+    family : (q parity c row column step : ℕ) (at : ℕ → ℕ) → equation s q ≡ record { row = row; column = c; sums = λ k j. ltb k (s .p - 2) && eqb j (at k) }
+        → parity ≡ c * s .p + row → column < s .p → step < s .p → ((k : ℕ) → k < s .p - 2 → (column + step * k) % s .p ≡ at k) → Walks s q (fallen parity (s .p - 2) column step)
+    family q parity c row column step at is par lc ls goes =
+        walks q e _ is
+        (falling e parity (s .p - 2) column step
+        (par ∙ ap (λ (n : ℕ). c * n + row) (rows-third s is-xcode)) (omega (arith, high s w)) (omega (arith, rows-third s is-xcode)) lc ls
+        (λ k lk. and-both (lt-ltb k (s .p - 2) lk) (eq-eqb ((column + step * k) % s .p) (at k) (goes k lk)))
+        (λ i j li lj p.
+        let small : i < s .p - 2 = ltb-true i (s .p - 2) (and-left (ltb i (s .p - 2)) (eqb j (at i)) p) in
+        (small, goes i small ∙ sym (eqb-true j (at i) (and-right (ltb i (s .p - 2)) (eqb j (at i)) p)))))
+      where
+        e : Equation
+        e = record { row = row; column = c; sums = λ k j. ltb k (s .p - 2) && eqb j (at k) }
+
+    pub xcode-first : (q column : ℕ) → q < s .p → column ≡ (q + 2) % s .p → Walks s q (fallen (q * s .p + (s .p - 2)) (s .p - 2) column 1)
+    xcode-first q column l starts =
+        family q (q * s .p + (s .p - 2)) q (s .p - 2) column 1 (λ k. (q + k + 2) % s .p) (xcode-first-is q l) refl
+        (subst (λ (n : ℕ). n < s .p) (sym starts) (mod-lt (q + 2) (omega arith))) (omega (arith, low s w))
+        (λ k lk. ap (λ (n : ℕ). (n + 1 * k) % s .p) starts ∙ mod-add-mod (q + 2) (s .p) (1 * k) ∙ ap (λ (n : ℕ). n % s .p) (same k))
+      where
+        same : (k : ℕ) → q + 2 + 1 * k ≡ q + k + 2
+        same k = omega arith
+
+    pub xcode-second : (q column : ℕ) → s .p ≤ q → q < equations s → column ≡ (q - s .p + (s .p - 2)) % s .p
+        → Walks s q (fallen ((q - s .p) * s .p + (s .p - 1)) (s .p - 2) column (s .p - 1))
+    xcode-second q column lo hi starts =
+        family q (c * s .p + (s .p - 1)) c (s .p - 1) column (s .p - 1) (λ k. (s .p + c - k - 2) % s .p) (xcode-second-is q lo) refl
+        (subst (λ (n : ℕ). n < s .p) (sym starts) (mod-lt (c + (s .p - 2)) pos)) (omega (arith, pos))
+        (λ k lk. ap (λ (n : ℕ). (n + (s .p - 1) * k) % s .p) starts ∙ mod-add-mod (c + (s .p - 2)) (s .p) ((s .p - 1) * k)
+        ∙ ap (λ (n : ℕ). n % s .p) (same k lk) ∙ turns (s .p) k (s .p + c - k - 2))
+      where
+        c : ℕ
+        c = q - s .p
+
+        pos : 0 < s .p
+        pos = omega (arith, low s w)
+
+        same : (k : ℕ) → k < s .p - 2 → c + (s .p - 2) + (s .p - 1) * k ≡ k * s .p + (s .p + c - k - 2)
+        same k lk = omega (arith, steps-back (s .p) k pos)

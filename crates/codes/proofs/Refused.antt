@@ -1,0 +1,86 @@
+-- Laws of the refusals of a lent stripe: each number from the tests before it, and what holds where there is none.
+use mathlib.Core.Path.{_≡_, refl, _∙_}
+use mathlib.Core.Logic.{_≢_}
+use mathlib.Core.List.{[], _∷_}
+use mathlib.Core.Bool.{Bool, true, false, cond, not, _&&_, _||_}
+use Prim.Native.Nat.{ℕ, _≤_, _<_}
+use native.Mathlib.Omega.{arith}
+use lib.Dec.{eqb, leb}
+use borrow.Author.Tests.{eq-eqb, ne-eqb, le-leb, lt-leb}
+use Rattle.xor.proofs.Cases.{by-test, by-equal, by-less}
+use Rattle.codes.specs.declared.Shape.{Shape}
+use Rattle.codes.specs.Shape.{listed, stripeLength, WellFormed}
+use Rattle.codes.specs.Refusals.{order, applies, firstOf, refusal, stripeFaults}
+use Rattle.codes.proofs.Shapes.{each-code}
+
+-- the four tests in their order
+chain : (a b c d : Bool)
+    → refusal (record { number = 1; applies = a } ∷ record { number = 2; applies = b } ∷ record { number = 4; applies = c } ∷ record { number = 5; applies = d } ∷ [])
+    ≡ cond a 1 (cond b 2 (cond c 4 (cond d 5 0)))
+unfolding refusal firstOf order applies
+chain true b c d = refl
+chain false true c d = refl
+chain false false true d = refl
+chain false false false true = refl
+chain false false false false = refl
+
+abbrev badCode : ℕ → Bool
+badCode code = not (eqb code 1 || eqb code 2 || eqb code 3)
+
+abbrev badCell : ℕ → Bool
+badCell cell = not (leb 1 cell && leb cell 4096)
+
+module _ (s : Shape) (bytes : ℕ) where
+  ordered : refusal (stripeFaults s bytes) ≡ cond (badCode (s .code)) 1 (cond (not (listed (s .p))) 2 (cond (badCell (s .cell)) 4 (cond (not (eqb bytes (stripeLength s))) 5 0)))
+  unfolding stripeFaults
+  ordered = chain (badCode (s .code)) (not (listed (s .p))) (badCell (s .cell)) (not (eqb bytes (stripeLength s)))
+
+  -- ---- the code's tests, and what they say
+
+  pub code-zero : s .code ≡ 0 → 1 ≡ refusal (stripeFaults s bytes)
+  code-zero e = rw (ordered, e) refl
+
+  pub code-large : 3 < s .code → 1 ≡ refusal (stripeFaults s bytes)
+  code-large l = rw (ordered, ne-eqb (s .code) 1 (λ e. omega arith), ne-eqb (s .code) 2 (λ e. omega arith), ne-eqb (s .code) 3 (λ e. omega arith)) refl
+
+  module _ (lo : s .code ≢ 0) (hi : s .code ≤ 3) where
+    code-right : badCode (s .code) ≡ false
+    code-right = each-code (λ c. badCode c ≡ false) refl refl refl (s .code) (omega arith) hi
+
+    pub prime-other : listed (s .p) ≡ false → 2 ≡ refusal (stripeFaults s bytes)
+    prime-other e = rw (ordered, code-right, e) refl
+
+    module _ (prime : listed (s .p) ≡ true) where
+      pub cell-zero : s .cell ≡ 0 → 4 ≡ refusal (stripeFaults s bytes)
+      cell-zero e = rw (ordered, code-right, prime, e) refl
+
+      pub cell-large : 4096 < s .cell → 4 ≡ refusal (stripeFaults s bytes)
+      cell-large l = rw (ordered, code-right, prime, le-leb 1 (s .cell) (omega arith), lt-leb (s .cell) 4096 l) refl
+
+      module _ (cell-lo : s .cell ≢ 0) (cell-hi : s .cell ≤ 4096) where
+        cell-right : badCell (s .cell) ≡ false
+        cell-right = rw (le-leb 1 (s .cell) (omega arith), le-leb (s .cell) 4096 cell-hi) refl
+
+        pub well-formed : WellFormed s
+        well-formed = record { codeLow = omega arith; codeHigh = hi; prime = prime; cellLow = omega arith; cellHigh = cell-hi }
+
+        pub length-other : bytes ≢ stripeLength s → 5 ≡ refusal (stripeFaults s bytes)
+        length-other n = rw (ordered, code-right, prime, cell-right, ne-eqb bytes (stripeLength s) n) refl
+
+        pub all-right : bytes ≡ stripeLength s → 0 ≡ refusal (stripeFaults s bytes)
+        all-right e = rw (ordered, code-right, prime, cell-right, eq-eqb bytes (stripeLength s) e) refl
+
+-- a stripe that is not refused is well formed, and of the right length
+pub accepted : (s : Shape) (bytes : ℕ) → refusal (stripeFaults s bytes) ≡ 0 → WellFormed s × (bytes ≡ stripeLength s)
+accepted s bytes zero =
+    by-equal (s .code) 0 (λ e. stop 1 (code-zero s bytes e) (omega arith))
+    (λ lo. by-less 3 (s .code) (λ l. stop 1 (code-large s bytes l) (omega arith))
+    (λ hi. by-test (listed (s .p))
+    (λ prime. by-equal (s .cell) 0 (λ e. stop 4 (cell-zero s bytes lo hi prime e) (omega arith))
+    (λ clo. by-less 4096 (s .cell) (λ l. stop 4 (cell-large s bytes lo hi prime l) (omega arith))
+    (λ chi. by-equal bytes (stripeLength s) (λ e. (well-formed s bytes lo hi prime clo chi, e))
+    (λ n. stop 5 (length-other s bytes lo hi prime clo chi n) (omega arith)))))
+    (λ e. stop 2 (prime-other s bytes lo hi e) (omega arith))))
+  where
+    stop : {A : Type 0} (n : ℕ) → n ≡ refusal (stripeFaults s bytes) → 0 < n → A
+    stop n e l = absurd (let same : n ≡ 0 = e ∙ zero in omega arith)

@@ -1,0 +1,5 @@
+pub mod Shape
+pub mod Equations
+pub mod Encoded
+pub mod Refusals
+pub mod Lines

@@ -1,0 +1,47 @@
+-- How the cells that an equation sums are found one after the other.
+use mathlib.Core.Path.{_≡_}
+use mathlib.Core.Logic.{_⊎_}
+use mathlib.Core.List.{List}
+use mathlib.Core.Bool.{true}
+use Prim.Native.Nat.{ℕ, _+_, _*_, _%_, _≤_, _<_}
+use lib.ListN.{length, getD}
+use Rattle.xor.specs.Xor.{xors}
+use Rattle.codes.specs.declared.Shape.{Shape}
+use Rattle.codes.specs.declared.Line.{Line}
+use Rattle.codes.specs.declared.Sources.{Sources}
+use Rattle.codes.specs.Shape.{cells, cellNumber, stripeLength}
+use Rattle.codes.specs.Encoded.{parityCell, sumsCell, sumOver, parityByte}
+
+-- cell k of a line: its row is row + fall * k, and its column is column + step * k mod p
+unfoldable pub lineCell : Shape → Line → ℕ → ℕ
+lineCell s l k = cellNumber s (l .row + l .fall * k) ((l .column + l .step * k) % s .p)
+
+-- the line stays inside the stripe
+pub record Lies (s : Shape) (l : Line) : Type 0 where
+  pub few : l .count ≤ 30
+  pub low : l .row + l .fall * l .count ≤ 62
+  pub column : l .column < s .p
+  pub step : l .step < s .p
+  pub inside : (k : ℕ) → k < l .count → lineCell s l k < cells s
+
+-- the line goes through the cells that equation q sums, once through each
+pub record Walks (s : Shape) (q : ℕ) (l : Line) : Type 0 where
+  pub lies : Lies s l
+  pub parity : l .parity ≡ parityCell s q
+  pub summed : (k : ℕ) → k < l .count → sumsCell s q (lineCell s l k) ≡ true
+  pub sum : (f : ℕ → ℕ) → sumOver s q f ≡ xors (l .count) (λ k. f (lineCell s l k))
+
+-- the places are those of the cells of a line
+pub record Placed (s : Shape) (l : Line) (places : List ℕ) : Type 0 where
+  pub long : length places ≡ 32
+  pub place : (k : ℕ) → k < l .count → getD places k 0 ≡ lineCell s l k * s .cell
+
+-- r has the place of the parity cell of equation q, and `places` begins with the places of the cells that it sums
+pub record Found (s : Shape) (q : ℕ) (r : Sources) (places : List ℕ) : Type 0 where
+  pub to : r .to ≡ parityCell s q * s .cell
+  pub few : r .count ≤ 32
+  pub long : length places ≡ 32
+  pub ends : r .to + s .cell ≤ stripeLength s
+  pub inside : (k : ℕ) → k < r .count → getD places k 0 + s .cell ≤ stripeLength s
+  pub apart : (k : ℕ) → k < r .count → (getD places k 0 + s .cell ≤ r .to) ⊎ (r .to + s .cell ≤ getD places k 0)
+  pub sum : (stripe : List ℕ) (t : ℕ) → xors (r .count) (λ k. getD stripe (getD places k 0 + t) 0) ≡ parityByte s stripe q t

@@ -1,0 +1,39 @@
+-- The refusals of every call, and their order: document 01, "Refusal numbers".
+use mathlib.Core.List.{List, [], _∷_}
+use mathlib.Core.Bool.{Bool, false, cond, not, _&&_, _||_}
+use Prim.Native.Nat.{ℕ}
+use lib.Dec.{eqb, leb}
+use Rattle.codes.specs.declared.Shape.{Shape}
+use Rattle.codes.specs.Shape.{listed, stripeLength}
+
+-- a refusal's number, and whether it applies
+pub record Fault : Type 0 where
+  pub number : ℕ
+  pub applies : Bool
+
+-- the refusal numbers in the order in which they go before each other
+unfoldable pub order : List ℕ
+order = 13 ∷ 1 ∷ 2 ∷ 3 ∷ 4 ∷ 5 ∷ 6 ∷ 7 ∷ 8 ∷ 9 ∷ 10 ∷ 11 ∷ 12 ∷ []
+
+-- whether refusal n is among the faults and applies
+unfoldable pub applies : List Fault → ℕ → Bool
+applies [] n = false
+applies (f ∷ faults) n = (eqb (f .number) n && f .applies) || applies faults n
+
+-- the first number of a list whose refusal applies; 0 where none does
+unfoldable pub firstOf : List ℕ → List Fault → ℕ
+firstOf [] faults = 0
+firstOf (n ∷ numbers) faults = cond (applies faults n) n (firstOf numbers faults)
+
+-- the refusal that is given: the first in order that applies; 0 where none does
+unfoldable pub refusal : List Fault → ℕ
+refusal faults = firstOf order faults
+
+-- the refusals of every call on a lent stripe of so many bytes
+unfoldable pub stripeFaults : Shape → ℕ → List Fault
+stripeFaults s bytes =
+    record { number = 1; applies = not (eqb (s .code) 1 || eqb (s .code) 2 || eqb (s .code) 3) }
+    ∷ record { number = 2; applies = not (listed (s .p)) }
+    ∷ record { number = 4; applies = not (leb 1 (s .cell) && leb (s .cell) 4096) }
+    ∷ record { number = 5; applies = not (eqb bytes (stripeLength s)) }
+    ∷ []

@@ -1,0 +1,251 @@
+// The shape of a stripe, the published equations of RDP, H-Code and X-Code, and the refusals that every call on a stripe shares.
+ghost use mathlib.Core.Path.{_≡_};
+ghost use Prim.Native.Nat.{_+_, _*_, _%_, _≤_, _<_};
+ghost use lib.ListN.{length};
+ghost use Rattle.codes.specs.Shape.{listed, rows, columns, equations, stripeLength, WellFormed};
+ghost use Rattle.codes.specs.Refusals.{refusal, stripeFaults};
+ghost use Rattle.codes.specs.Lines.{Lies, Walks, Placed, Found};
+
+// What describes a stripe: the code (1 RDP, 2 H-Code, 3 X-Code), the prime, and the bytes in a cell. Any numbers may stand here.
+#[repr(C)]
+pub struct Shape {
+    pub code: usize,
+    pub p: usize,
+    pub cell: usize,
+}
+
+// The cells of an equation: the number of its parity cell, and a line through the `count` cells whose XOR that is.
+// The line starts in a row and a column; each next cell is `fall` rows down and `step` columns on, from column p - 1 back to 0.
+struct Line {
+    parity: usize,
+    count: usize,
+    row: usize,
+    fall: usize,
+    column: usize,
+    step: usize,
+}
+
+// Where in the stripe's bytes an equation's parity cell starts, and how many cells it is the XOR of.
+pub struct Sources {
+    pub to: usize,
+    pub count: usize,
+}
+
+// Whether p is one of the ten primes.
+fn is_listed(p: usize) -> bool
+    ensures { λ r. ⌜ r ≡ listed p ⌝ }
+{
+    match p {
+        3 | 5 | 7 | 11 | 13 | 17 | 19 | 23 | 29 | 31 => true,
+        _ => false,
+    }
+}
+
+// Rows of a stripe.
+pub fn row_count(shape: Shape) -> usize
+    requires { ⌜ WellFormed shape ⌝ }
+    ensures { λ r. ⌜ r ≡ rows shape ⌝ }
+{
+    if shape.code == 3 {
+        shape.p
+    } else {
+        shape.p - 1
+    }
+}
+
+// Columns of a stripe.
+pub fn column_count(shape: Shape) -> usize
+    requires { ⌜ WellFormed shape ⌝ }
+    ensures { λ r. ⌜ r ≡ columns shape ⌝ }
+{
+    if shape.code == 3 {
+        shape.p
+    } else {
+        shape.p + 1
+    }
+}
+
+// Equations of a stripe.
+pub fn equation_count(shape: Shape) -> usize
+    requires { ⌜ WellFormed shape ⌝ }
+    ensures { λ r. ⌜ r ≡ equations shape ⌝ }
+{
+    if shape.code == 3 {
+        2 * shape.p
+    } else {
+        2 * (shape.p - 1)
+    }
+}
+
+// The length of a stripe in bytes.
+pub fn stripe_bytes(shape: Shape) -> usize
+    requires { ⌜ WellFormed shape ⌝ }
+    ensures { λ r. ⌜ r ≡ stripeLength shape ⌝ }
+{
+    column_count(shape) * row_count(shape) * shape.cell
+}
+
+// The refusal of a call on a lent stripe of so many bytes: the lowest number that applies, or 0.
+pub fn stripe_refusal(shape: Shape, bytes: usize) -> usize
+    ensures { λ r. ⌜ r ≡ refusal (stripeFaults shape bytes) ⌝ }
+{
+    if shape.code == 0 {
+        return 1;
+    }
+    if 3 < shape.code {
+        return 1;
+    }
+    if !is_listed(shape.p) {
+        return 2;
+    }
+    if shape.cell == 0 {
+        return 4;
+    }
+    if 4096 < shape.cell {
+        return 4;
+    }
+    if bytes != stripe_bytes(shape) {
+        return 5;
+    }
+    0
+}
+
+// The column that is `step` columns on, from column p - 1 back to 0.
+fn turned(column: usize, step: usize, p: usize) -> usize
+    requires { ⌜ (column < p) × (step ≤ p) × (p < 32) ⌝ }
+    ensures { λ r. ⌜ r ≡ (column + step) % p ⌝ }
+{
+    let next = column + step;
+    if p <= next { next - p } else { next }
+}
+
+// The line of equation q of RDP: rows first, then the diagonals, which hold the row parity column.
+fn rdp_line(shape: Shape, q: usize) -> Line
+    requires { ⌜ WellFormed shape × (shape .code ≡ 1) × (q < equations shape) ⌝ }
+    ensures { λ r. ⌜ Walks shape q r ⌝ }
+{
+    let p = shape.p;
+    let n = p - 1;
+    if q < n {
+        return Line {
+            parity: n * n + q,
+            count: n,
+            row: q,
+            fall: 0,
+            column: 0,
+            step: 1,
+        };
+    }
+    let d = q - n;
+    Line {
+        parity: p * n + d,
+        count: n,
+        row: 0,
+        fall: 1,
+        column: d,
+        step: n,
+    }
+}
+
+// The line of equation q of H-Code: rows first, then the anti-diagonals.
+fn hcode_line(shape: Shape, q: usize) -> Line
+    requires { ⌜ WellFormed shape × (shape .code ≡ 2) × (q < equations shape) ⌝ }
+    ensures { λ r. ⌜ Walks shape q r ⌝ }
+{
+    let p = shape.p;
+    let n = p - 1;
+    if q < n {
+        return Line {
+            parity: p * n + q,
+            count: n,
+            row: q,
+            fall: 0,
+            column: turned(q, 2, p),
+            step: 1,
+        };
+    }
+    let r = q - n;
+    Line {
+        parity: (r + 1) * n + r,
+        count: n,
+        row: 0,
+        fall: 1,
+        column: turned(r, 2, p),
+        step: 1,
+    }
+}
+
+// The line of equation q of X-Code: the first family, then the second.
+fn xcode_line(shape: Shape, q: usize) -> Line
+    requires { ⌜ WellFormed shape × (shape .code ≡ 3) × (q < equations shape) ⌝ }
+    ensures { λ r. ⌜ Walks shape q r ⌝ }
+{
+    let p = shape.p;
+    if q < p {
+        return Line {
+            parity: q * p + (p - 2),
+            count: p - 2,
+            row: 0,
+            fall: 1,
+            column: turned(q, 2, p),
+            step: 1,
+        };
+    }
+    let c = q - p;
+    Line {
+        parity: c * p + (p - 1),
+        count: p - 2,
+        row: 0,
+        fall: 1,
+        column: turned(c, p - 2, p),
+        step: p - 1,
+    }
+}
+
+// The line of equation q.
+fn line_of(shape: Shape, q: usize) -> Line
+    requires { ⌜ WellFormed shape × (q < equations shape) ⌝ }
+    ensures { λ r. ⌜ Walks shape q r ⌝ }
+{
+    if shape.code == 1 {
+        return rdp_line(shape, q);
+    }
+    if shape.code == 2 {
+        return hcode_line(shape, q);
+    }
+    xcode_line(shape, q)
+}
+
+// Fills in where in the stripe's bytes the cells of a line start.
+fn place_cells(shape: Shape, l: Line, places: &mut [usize; 32])
+    requires { ⌜ WellFormed shape × Lies shape l × (length (now places) ≡ 32) ⌝ }
+    ensures { λ _. ⌜ Placed shape l (now (places .exit)) ⌝ }
+{
+    let p = shape.p;
+    let cell = shape.cell;
+    let n = row_count(shape);
+    let count = l.count;
+    let fall = l.fall;
+    let step = l.step;
+    let mut row = l.row;
+    let mut column = l.column;
+    let mut k = 0;
+    while k < count {
+        places[k] = (column * n + row) * cell;
+        row += fall;
+        column = turned(column, step, p);
+        k += 1;
+    }
+}
+
+// Where the parity cell of equation q starts; where the cells start whose XOR it is goes into `places`.
+pub fn sources_of(shape: Shape, q: usize, places: &mut [usize; 32]) -> Sources
+    requires { ⌜ WellFormed shape × (q < equations shape) × (length (now places) ≡ 32) ⌝ }
+    ensures { λ r. ⌜ Found shape q r (now (places .exit)) ⌝ }
+{
+    let l = line_of(shape, q);
+    let to = l.parity * shape.cell;
+    let count = l.count;
+    place_cells(shape, l, places);
+    Sources { to, count }
+}

@@ -1,0 +1,29 @@
+-- What encode promises: document 01, "What each call gives".
+use mathlib.Core.Path.{_≡_}
+use mathlib.Core.Logic.{_≢_}
+use mathlib.Core.List.{List}
+use mathlib.Core.Bool.{false}
+use Prim.Native.Nat.{ℕ, _<_}
+use lib.ListN.{length}
+use Rattle.codes.specs.declared.Shape.{Shape}
+use Rattle.codes.specs.Shape.{cells}
+use Rattle.codes.specs.Encoded.{byteAt, parityCell, parityByte, isParity, Encoded}
+use Rattle.codes.specs.Refusals.{refusal, stripeFaults}
+
+-- new is the encoded stripe with the data cells of old
+pub record EncodingOf (s : Shape) (old new : List ℕ) : Type 0 where
+  pub long : length new ≡ length old
+  pub kept : (c : ℕ) → c < cells s → isParity s c ≡ false → (t : ℕ) → t < s .cell → byteAt s new c t ≡ byteAt s old c t
+  pub encoded : Encoded s new
+
+-- encode answers 0 and leaves the encoded stripe with the same data cells, or it answers the refusal and leaves every byte
+pub record Encodes (s : Shape) (old : List ℕ) (answer : ℕ) (new : List ℕ) : Type 0 where
+  pub number : answer ≡ refusal (stripeFaults s (length old))
+  pub refused : answer ≢ 0 → new ≡ old
+  pub done : answer ≡ 0 → EncodingOf s old new
+
+-- new is old with the parity cell of equation q set to the XOR of the cells that the equation sums
+pub record ParitySet (s : Shape) (q : ℕ) (old new : List ℕ) : Type 0 where
+  pub long : length new ≡ length old
+  pub own : (t : ℕ) → t < s .cell → byteAt s new (parityCell s q) t ≡ parityByte s old q t
+  pub others : (c : ℕ) → c ≢ parityCell s q → (t : ℕ) → t < s .cell → byteAt s new c t ≡ byteAt s old c t

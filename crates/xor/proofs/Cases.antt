@@ -1,0 +1,48 @@
+-- Going by cases: on a test, on whether two numbers are equal, on the numbers below a bound.
+use mathlib.Core.Path.{_≡_, refl, sym, _∙_, subst}
+use mathlib.Core.Logic.{_≢_}
+use mathlib.Core.Bool.{Bool, true, false, _&&_, true≢false}
+use Prim.Native.Nat.{ℕ, _≤_, _<_}
+use native.Mathlib.Decide.{ℕ-discrete, decLt}
+use native.Mathlib.Omega.{arith}
+
+-- a test passes or fails
+pub by-test : {A : Type 0} (b : Bool) → (b ≡ true → A) → (b ≡ false → A) → A
+by-test true yes′ no′ = yes′ refl
+by-test false yes′ no′ = no′ refl
+
+-- a test that passes and fails
+pub clash : {A : Type 0} {b : Bool} → b ≡ true → b ≡ false → A
+clash p q = absurd (true≢false (sym p ∙ q))
+
+-- two numbers are equal or not
+pub by-equal : {A : Type 0} (m n : ℕ) → (m ≡ n → A) → (m ≢ n → A) → A
+by-equal {A} m n same other = go (ℕ-discrete m n)
+  where
+    go : Dec (m ≡ n) → A
+    go (yes e) = same e
+    go (no e) = other e
+
+-- a number is below another or not
+pub by-less : {A : Type 0} (m n : ℕ) → (m < n → A) → (n ≤ m → A) → A
+by-less {A} m n less other = go (decLt m n)
+  where
+    go : Dec (m < n) → A
+    go (yes l) = less l
+    go (no l) = other (omega arith)
+
+-- both tests of a conjunction
+pub and-left : (a b : Bool) → (a && b) ≡ true → a ≡ true
+and-left true b h = refl
+and-left false b h = h
+
+pub and-right : (a b : Bool) → (a && b) ≡ true → b ≡ true
+and-right true b h = h
+and-right false b h = clash h refl
+
+pub and-both : {a b : Bool} → a ≡ true → b ≡ true → (a && b) ≡ true
+and-both {b = b} p q = subst (λ (x : Bool). (x && b) ≡ true) (sym p) q
+
+-- a test that does not pass fails
+pub not-passed : {b : Bool} → (b ≡ true → ⊥) → b ≡ false
+not-passed {b} h = by-test b (λ p. absurd (h p)) (λ p. p)

@@ -1,0 +1,203 @@
+-- Laws of blocks and runs: one turn of each loop that adds, stores or gathers bytes.
+use mathlib.Core.Path.{_≡_, refl, sym, ap, ap₂, _∙_, subst}
+use mathlib.Core.Logic.{_≢_, _⊎_, inl, inr, ⊎-elim}
+use mathlib.Core.List.{List}
+use mathlib.Core.Bool.{Bool, true, false}
+use Prim.Native.Nat.{ℕ, _+_, _-_, _≤_, _<_}
+use native.Mathlib.Nat.{add-assoc}
+use native.Mathlib.Omega.{arith}
+use lib.ListN.{length, getD, set, length-set, replicate, getD-replicate}
+use lib.Seq.{getD-set-same, getD-set-other}
+use lib.Bits.{bitXor, bitOr}
+use lib.Dec.{eqb}
+use borrow.Author.Tests.{eqb-true, eqb-false}
+use Rattle.xor.specs.Xor.{_⊕_, xors}
+use Rattle.xor.specs.Runs.{sumAt, Inside, Apart, Added, Put, Says}
+use Rattle.xor.proofs.Cases.{by-equal, by-less, clash}
+use Rattle.xor.proofs.Algebra.{⊕-is, zero-⊕, ⊕-zero, ⊕-assoc, ⊕-equal, equal-⊕, or-none-left, or-none-right}
+use Rattle.xor.proofs.Sums.{xors-more, xors-none, xors-same}
+
+-- ---- bytes XORed into a block
+
+pub added-none : (sum : List ℕ) (f : ℕ → ℕ) → Added sum 0 f sum
+added-none sum f = record { long = refl; inner = λ i l. absurd (omega arith); outer = λ i l. refl }
+
+pub added-more : (sum r : List ℕ) (n x : ℕ) (f : ℕ → ℕ) → n < length r → Added sum n f r → x ≡ f n
+    → Added sum (n + 1) f (set r n (bitXor (getD r n 0) x))
+added-more sum r n x f l h e = record {
+  long = length-set r n (bitXor (getD r n 0) x) ∙ h .long;
+  inner = λ i li. by-equal i n
+      (λ q. ap (λ (k : ℕ). getD (set r n (bitXor (getD r n 0) x)) k 0) q ∙ getD-set-same r n (bitXor (getD r n 0) x) 0 l
+      ∙ sym (⊕-is (getD r n 0) x) ∙ ap (λ (y : ℕ). y ⊕ x) (h .outer n (omega arith)) ∙ ap (λ (y : ℕ). getD sum n 0 ⊕ y) e
+      ∙ ap (λ (k : ℕ). getD sum k 0 ⊕ f k) (sym q))
+      (λ q. getD-set-other r n i (bitXor (getD r n 0) x) 0 q ∙ h .inner i (omega arith));
+  outer = λ i li. getD-set-other r n i (bitXor (getD r n 0) x) 0 (λ q. omega arith) ∙ h .outer i (omega arith);
+}
+
+-- nothing to add, and two additions in one
+pub added-zero : (sum : List ℕ) (n : ℕ) (f : ℕ → ℕ) → ((i : ℕ) → i < n → f i ≡ 0) → Added sum n f sum
+added-zero sum n f z = record { long = refl; inner = λ i l. sym (⊕-zero (getD sum i 0)) ∙ ap (λ (y : ℕ). getD sum i 0 ⊕ y) (sym (z i l)); outer = λ i l. refl }
+
+pub added-twice : (sum r r′ : List ℕ) (n : ℕ) (f g h : ℕ → ℕ) → Added sum n f r → Added r n g r′ → ((i : ℕ) → i < n → f i ⊕ g i ≡ h i) → Added sum n h r′
+added-twice sum r r′ n f g h a b e = record {
+  long = b .long ∙ a .long;
+  inner = λ i l. b .inner i l ∙ ap (λ (y : ℕ). y ⊕ g i) (a .inner i l) ∙ ⊕-assoc (getD sum i 0) (f i) (g i) ∙ ap (λ (y : ℕ). getD sum i 0 ⊕ y) (e i l);
+  outer = λ i l. b .outer i l ∙ a .outer i l;
+}
+
+-- ---- runs XORed into a block, one after the other
+
+-- the XOR of the bytes t past the first k places
+abbrev pub sumTo : List ℕ → List ℕ → ℕ → ℕ → ℕ
+sumTo s places k t = xors k (λ j. getD s (getD places j 0 + t) 0)
+
+pub runs-none : (s places sum : List ℕ) (n at : ℕ) → Added sum n (λ i. sumTo s places 0 (at + i)) sum
+runs-none s places sum n at = added-zero sum n (λ i. sumTo s places 0 (at + i)) (λ i l. xors-none (λ j. getD s (getD places j 0 + (at + i)) 0))
+
+pub runs-more : (s places sum r r′ : List ℕ) (n at k : ℕ) → Added sum n (λ i. sumTo s places k (at + i)) r
+    → Added r n (λ i. getD s (getD places k 0 + at + i) 0) r′ → Added sum n (λ i. sumTo s places (k + 1) (at + i)) r′
+runs-more s places sum r r′ n at k h b =
+    added-twice sum r r′ n (λ i. sumTo s places k (at + i)) (λ i. getD s (getD places k 0 + at + i) 0) (λ i. sumTo s places (k + 1) (at + i)) h b
+    (λ i l. ap (λ (x : ℕ). sumTo s places k (at + i) ⊕ getD s x 0) (add-assoc (getD places k 0) at i) ∙ sym (xors-more k (λ j. getD s (getD places j 0 + (at + i)) 0)))
+
+pub runs-all : (s places sum r : List ℕ) (n at k : ℕ) → k ≡ length places → Added sum n (λ i. sumTo s places k (at + i)) r → Added sum n (λ i. sumAt s places (at + i)) r
+unfolding sumAt
+runs-all s places sum r n at k e h = subst (λ (m : ℕ). Added sum n (λ i. sumTo s places m (at + i)) r) e h
+
+-- ---- bytes stored in a run
+
+pub put-none : (s : List ℕ) (to : ℕ) (f : ℕ → ℕ) → Put s to 0 f s
+put-none s to f = record { long = refl; inner = λ t l. absurd (omega arith); outer = λ i l. refl }
+
+pub put-more : (s s′ : List ℕ) (to n x : ℕ) (f : ℕ → ℕ) → to + n < length s′ → Put s to n f s′ → x ≡ f n → Put s to (n + 1) f (set s′ (to + n) x)
+put-more s s′ to n x f l h e = record {
+  long = length-set s′ (to + n) x ∙ h .long;
+  inner = λ t lt. by-equal t n
+      (λ q. ap (λ (k : ℕ). getD (set s′ (to + n) x) (to + k) 0) q ∙ getD-set-same s′ (to + n) x 0 l ∙ e ∙ ap f (sym q))
+      (λ q. getD-set-other s′ (to + n) (to + t) x 0 (λ z. q (omega arith)) ∙ h .inner t (omega arith));
+  outer = λ i side. getD-set-other s′ (to + n) i x 0 (off i side) ∙ h .outer i (less i side);
+}
+  where
+    off : (i : ℕ) → (i < to) ⊎ (to + (n + 1) ≤ i) → i ≢ to + n
+    off i side z = ⊎-elim (λ w. omega arith) (λ w. omega arith) side
+
+    less : (i : ℕ) → (i < to) ⊎ (to + (n + 1) ≤ i) → (i < to) ⊎ (to + n ≤ i)
+    less i side = ⊎-elim (λ w. inl w) (λ w. inr (omega arith)) side
+
+-- a run apart from the bytes stored has its old bytes
+pub sum-apart : (s s′ places : List ℕ) (to d n t : ℕ) (f : ℕ → ℕ) → Put s to d f s′ → Apart places to n → d ≤ n → t < n
+    → sumAt s′ places t ≡ sumAt s places t
+unfolding sumAt
+sum-apart s s′ places to d n t f h a ld lt =
+    xors-same (length places) (λ k. getD s′ (getD places k 0 + t) 0) (λ k. getD s (getD places k 0 + t) 0)
+    (λ k l. h .outer (getD places k 0 + t) (⊎-elim (λ w. inl (omega arith)) (λ w. inr (omega arith)) (a .side k l)))
+
+-- a block stored at `at`, where the run was done up to `done` or less far
+pub put-block : (s₀ s s′ places : List ℕ) (to n at m done : ℕ)
+    → Put s₀ to done (sumAt s₀ places) s → Put s (to + at) m (λ t. sumAt s places (at + t)) s′
+    → Apart places to n → at ≤ done → done ≤ at + m → at + m ≤ n → Put s₀ to (at + m) (sumAt s₀ places) s′
+put-block s₀ s s′ places to n at m done h b a lo hi end = record {
+  long = b .long ∙ h .long;
+  inner = λ t l. by-less t at
+      (λ w. b .outer (to + t) (inl (omega arith)) ∙ h .inner t (omega arith))
+      (λ w. sum-at t w l);
+  outer = λ i side. b .outer i (out i side) ∙ h .outer i (out′ i side);
+}
+  where
+    -- a byte of the block: the run it sums is as it was
+    sum-at : (t : ℕ) → at ≤ t → t < at + m → getD s′ (to + t) 0 ≡ sumAt s₀ places t
+    sum-at t lo′ hi′ =
+        let same : at + (t - at) ≡ t = omega arith in
+        let place : to + at + (t - at) ≡ to + t = omega arith in
+        ap (λ (i : ℕ). getD s′ i 0) (sym place) ∙ b .inner (t - at) (omega arith) ∙ ap (sumAt s places) same
+        ∙ sum-apart s₀ s places to done n t (sumAt s₀ places) h a (omega arith) (omega arith)
+
+    out : (i : ℕ) → (i < to) ⊎ (to + (at + m) ≤ i) → (i < to + at) ⊎ (to + at + m ≤ i)
+    out i side = ⊎-elim (λ w. inl (omega arith)) (λ w. inr (omega arith)) side
+
+    out′ : (i : ℕ) → (i < to) ⊎ (to + (at + m) ≤ i) → (i < to) ⊎ (to + done ≤ i)
+    out′ i side = ⊎-elim (λ w. inl w) (λ w. inr (omega arith)) side
+
+-- a block whose bytes are those of another
+pub put-same : (s s′ : List ℕ) (to n : ℕ) (f g : ℕ → ℕ) → Put s to n f s′ → ((t : ℕ) → t < n → f t ≡ g t) → Put s to n g s′
+put-same s s′ to n f g h e = record { long = h .long; inner = λ t l. h .inner t l ∙ e t l; outer = h .outer }
+
+-- a block that is all zeros before anything is XORed in
+pub from-zero : (r : List ℕ) (n : ℕ) (f : ℕ → ℕ) → n ≤ 128 → Added (replicate 128 0) n f r → (t : ℕ) → t < n → getD r t 0 ≡ f t
+from-zero r n f ln h t l = h .inner t l ∙ ap (λ (x : ℕ). x ⊕ f t) (getD-replicate 128 t 0 0 (omega arith)) ∙ zero-⊕ (f t)
+
+-- shorter runs are inside too
+pub shorter : (long long′ n m : ℕ) (places : List ℕ) → Inside long places n → long′ ≡ long → m ≤ n → Inside long′ places m
+shorter long long′ n m places h e l = record { ends = λ k lk. let ends = h .ends k lk in omega arith }
+
+-- the last byte of the run is stored
+pub put-end : (s s′ : List ℕ) (to n m : ℕ) (f : ℕ → ℕ) → Put s to m f s′ → m ≡ n → Put s to n f s′
+put-end s s′ to n m f h e = subst (λ (k : ℕ). Put s to k f s′) e h
+
+-- ---- bits gathered from bytes
+
+-- r has a bit set exactly where one of the first n numbers has
+pub record Gathered (n : ℕ) (f : ℕ → ℕ) (r : ℕ) : Type 0 where
+  pub all : r ≡ 0 → (i : ℕ) → i < n → f i ≡ 0
+  pub none : ((i : ℕ) → i < n → f i ≡ 0) → r ≡ 0
+
+pub gathered-none : (f : ℕ → ℕ) → Gathered 0 f 0
+gathered-none f = record { all = λ z i l. absurd (omega arith); none = λ all. refl }
+
+pub gathered-more : (r n x : ℕ) (f : ℕ → ℕ) → Gathered n f r → x ≡ f n → Gathered (n + 1) f (bitOr r x)
+gathered-more r n x f h e = record {
+  all = λ z i l. by-equal i n (λ q. ap f q ∙ sym e ∙ or-none-right r x z) (λ q. h .all (or-none-left r x z) i (omega arith));
+  none = λ all. ap₂ bitOr (h .none (λ i l. all i (omega arith))) (e ∙ all n (omega arith));
+}
+
+pub gathered-says : (m n r : ℕ) (f : ℕ → ℕ) → Gathered m f r → m ≡ n → Says ((i : ℕ) → i < n → f i ≡ 0) (eqb r 0)
+gathered-says m n r f h same = record {
+  yes = λ e i l. h .all (eqb-true r 0 e) i (omega arith);
+  no = λ e all. eqb-false r 0 e (h .none (λ i l. all i (omega arith)));
+}
+
+-- ---- answers about runs
+
+-- the same fact in other words
+pub says-same : (A B : Type 0) (r : Bool) → (A → B) → (B → A) → Says A r → Says B r
+says-same A B r there back h = record { yes = λ e. there (h .yes e); no = λ e b. h .no e (back b) }
+
+-- bytes whose XOR is 0 are equal, and the other way round
+pub says-equal : (n : ℕ) (f g : ℕ → ℕ) (sum : List ℕ) (r : Bool) → ((t : ℕ) → t < n → getD sum t 0 ≡ f t ⊕ g t)
+    → Says ((t : ℕ) → t < n → getD sum t 0 ≡ 0) r → Says ((t : ℕ) → t < n → f t ≡ g t) r
+says-equal n f g sum r e =
+    says-same ((t : ℕ) → t < n → getD sum t 0 ≡ 0) ((t : ℕ) → t < n → f t ≡ g t) r
+    (λ z t l. ⊕-equal (f t) (g t) (sym (e t l) ∙ z t l)) (λ z t l. e t l ∙ equal-⊕ (f t) (g t) (z t l))
+
+-- a block from `at` on, where the run is known up to `done`
+pub block-after : (f g : ℕ → ℕ) (at m done : ℕ) → at ≤ done → ((t : ℕ) → t < done → f t ≡ g t) → ((t : ℕ) → t < m → f (at + t) ≡ g (at + t)) → (t : ℕ) → t < at + m → f t ≡ g t
+block-after f g at m done lo before here t l =
+    by-less t at (λ w. before t (omega arith))
+    (λ w. let same : at + (t - at) ≡ t = omega arith in ap f (sym same) ∙ here (t - at) (omega arith) ∙ ap g same)
+
+module _ (s places : List ℕ) (to : ℕ) where
+  -- the run at `to` is the XOR of the runs at the places in its first n bytes, or in n bytes from `at` on
+  abbrev pub RunSum : ℕ → Type 0
+  RunSum n = (t : ℕ) → t < n → getD s (to + t) 0 ≡ sumAt s places t
+
+  abbrev pub BlockSum : ℕ → ℕ → Type 0
+  BlockSum at n = (t : ℕ) → t < n → getD s (to + at + t) 0 ≡ sumAt s places (at + t)
+
+  pub more-blocks : (at m done : ℕ) → at ≤ done → RunSum done → BlockSum at m → RunSum (at + m)
+  more-blocks at m done lo before here =
+      block-after (λ t. getD s (to + t) 0) (sumAt s places) at m done lo before (λ t l. ap (λ (i : ℕ). getD s i 0) (sym (add-assoc to at t)) ∙ here t l)
+
+  pub block-of : (n at m : ℕ) → at + m ≤ n → RunSum n → BlockSum at m
+  block-of n at m end all t l = ap (λ (i : ℕ). getD s i 0) (add-assoc to at t) ∙ all (at + t) (omega arith)
+
+  -- one block is the whole run
+  pub one-block : (n : ℕ) (r : Bool) → Says (BlockSum 0 n) r → Says (RunSum n) r
+  one-block n r =
+      says-same (BlockSum 0 n) (RunSum n) r (λ h t l. more-blocks 0 n 0 (omega arith) (λ k lk. absurd (omega arith)) h t (omega arith)) (block-of n 0 n (omega arith))
+
+  -- a block that is not the sum, or no such block
+  pub some-block : (n at m : ℕ) (r : Bool) → at + m ≤ n → Says (BlockSum at m) r → r ≡ false → Says (RunSum n) false
+  some-block n at m r end h e = record { yes = λ z. clash z refl; no = λ z all. h .no e (block-of n at m end all) }
+
+  pub all-blocks : (n : ℕ) → RunSum n → Says (RunSum n) true
+  all-blocks n h = record { yes = λ z. h; no = λ z all. clash refl z }

@@ -1,0 +1,3 @@
+pub mod Xor
+pub mod Sets
+pub mod Runs

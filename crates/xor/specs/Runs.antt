@@ -1,0 +1,37 @@
+-- Runs of bytes in a slice: a run is given by the place of its first byte.
+use mathlib.Core.Path.{_≡_}
+use mathlib.Core.Logic.{_⊎_}
+use mathlib.Core.List.{List}
+use mathlib.Core.Bool.{Bool, true, false}
+use Prim.Native.Nat.{ℕ, _+_, _≤_, _<_}
+use lib.ListN.{length, getD}
+use Rattle.xor.specs.Xor.{_⊕_, xors}
+
+-- the XOR of the bytes t past each place
+unfoldable pub sumAt : List ℕ → List ℕ → ℕ → ℕ
+sumAt s places t = xors (length places) (λ k. getD s (getD places k 0 + t) 0)
+
+-- every run of n bytes lies inside
+pub record Inside (long : ℕ) (places : List ℕ) (n : ℕ) : Type 0 where
+  pub ends : (k : ℕ) → k < length places → getD places k 0 + n ≤ long
+
+-- none of the runs of n bytes meets the run at `to`
+pub record Apart (places : List ℕ) (to n : ℕ) : Type 0 where
+  pub side : (k : ℕ) → k < length places → (getD places k 0 + n ≤ to) ⊎ (to + n ≤ getD places k 0)
+
+-- r is the block `sum` with f i XORed into each byte i below n
+pub record Added (sum : List ℕ) (n : ℕ) (f : ℕ → ℕ) (r : List ℕ) : Type 0 where
+  pub long : length r ≡ length sum
+  pub inner : (i : ℕ) → i < n → getD r i 0 ≡ getD sum i 0 ⊕ f i
+  pub outer : (i : ℕ) → n ≤ i → getD r i 0 ≡ getD sum i 0
+
+-- s′ is s with f t in byte t of the run of n bytes at `to`, and no other byte changed
+pub record Put (s : List ℕ) (to n : ℕ) (f : ℕ → ℕ) (s′ : List ℕ) : Type 0 where
+  pub long : length s′ ≡ length s
+  pub inner : (t : ℕ) → t < n → getD s′ (to + t) 0 ≡ f t
+  pub outer : (i : ℕ) → (i < to) ⊎ (to + n ≤ i) → getD s′ i 0 ≡ getD s i 0
+
+-- r says whether the fact holds
+pub record Says (fact : Type 0) (r : Bool) : Type 0 where
+  pub yes : r ≡ true → fact
+  pub no : r ≡ false → fact → ⊥

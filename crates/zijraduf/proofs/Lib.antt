@@ -1,0 +1,3 @@
+-- The laws behind the exported functions, and the table of examples.
+pub mod Export
+pub mod Examples

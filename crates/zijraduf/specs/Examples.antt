@@ -1,0 +1,49 @@
+-- The stripes that document 01 marks P, as one table. Each row claims something in the words of the contracts.
+use mathlib.Core.Path.{_≡_}
+use mathlib.Core.List.{List, [], _∷_}
+use Prim.Native.Nat.{ℕ}
+use lib.ListN.{length}
+use Rattle.codes.specs.declared.Shape.{Shape}
+use Rattle.codes.specs.Shape.{stripeLength, WellFormed}
+use Rattle.codes.specs.Encoded.{Encoded, brokenEquations}
+
+-- what a row claims of a stripe: that it is encoded, or that so many equations are broken
+pub data Claim : Type 0 where
+  encoded : Claim
+  broken : ℕ → Claim
+
+-- a row: the number behind P, a stripe, and what is claimed of it
+pub record Example : Type 0 where
+  pub number : ℕ
+  pub shape : Shape
+  pub stripe : List ℕ
+  pub claim : Claim
+
+-- RDP, H-Code and X-Code with p = 3 and cells of one byte
+abbrev pub small : ℕ → Shape
+small code = record { code = code; p = 3; cell = 1 }
+
+-- the table
+unfoldable pub table : List Example
+table =
+    record { number = 1; shape = small 1; claim = encoded; stripe = 0x01 ∷ 0x04 ∷ 0x02 ∷ 0x08 ∷ 0x03 ∷ 0x0C ∷ 0x0D ∷ 0x06 ∷ [] }
+    ∷ record { number = 2; shape = small 2; claim = encoded; stripe = 0x01 ∷ 0x02 ∷ 0x0A ∷ 0x04 ∷ 0x08 ∷ 0x05 ∷ 0x09 ∷ 0x06 ∷ [] }
+    ∷ record { number = 3; shape = small 3; claim = encoded; stripe = 0x01 ∷ 0x04 ∷ 0x02 ∷ 0x02 ∷ 0x01 ∷ 0x04 ∷ 0x04 ∷ 0x02 ∷ 0x01 ∷ [] }
+    ∷ record { number = 10; shape = small 1; claim = broken 3; stripe = 0x00 ∷ 0x04 ∷ 0x02 ∷ 0x0A ∷ 0x03 ∷ 0x0C ∷ 0x0D ∷ 0x06 ∷ [] }
+    ∷ []
+
+-- what a claim says of a stripe
+abbrev pub Claims : Shape → List ℕ → Claim → Type 0
+Claims s stripe encoded = Encoded s stripe
+Claims s stripe (broken n) = brokenEquations s stripe ≡ n
+
+-- a row holds: its stripe is well formed, and what is claimed of it is so
+pub record Holds (e : Example) : Type 0 where
+  pub formed : WellFormed (e .shape)
+  pub long : length (e .stripe) ≡ stripeLength (e .shape)
+  pub so : Claims (e .shape) (e .stripe) (e .claim)
+
+-- every row of a list holds
+abbrev pub AllHold : List Example → Type 0
+AllHold [] = Unit {0}
+AllHold (e ∷ rows) = Holds e × AllHold rows

@@ -1,0 +1,31 @@
+// The library for C: include/zijraduf.h declares these functions. Each hands its arguments to the Rattle call and answers as that does.
+ghost use Rattle.stripe.specs.Encode.{Encodes};
+ghost use Rattle.zijraduf.specs.Export.{CountsBroken};
+use codes::Shape;
+use stripe::BrokenCount;
+
+// A refusal number, or 0 and a count.
+#[repr(C)]
+pub struct Count {
+    pub refusal: usize,
+    pub count: usize,
+}
+
+// Encode.
+#[no_mangle]
+pub extern "C" fn zijraduf_encode(shape: Shape, stripe: &mut [u8]) -> usize
+    ensures { λ r. ⌜ Encodes shape (now (stripe .entry)) r (now (stripe .exit)) ⌝ }
+{
+    stripe::encode(shape, stripe)
+}
+
+// Broken.
+#[no_mangle]
+pub extern "C" fn zijraduf_broken(shape: Shape, stripe: &[u8]) -> Count
+    ensures { λ r. ⌜ CountsBroken shape (now (stripe .entry)) r ⌝ }
+{
+    match stripe::broken(shape, stripe) {
+        BrokenCount::Equations(count) => Count { refusal: 0, count },
+        BrokenCount::Refused(refusal) => Count { refusal, count: 0 },
+    }
+}

@@ -1,0 +1,67 @@
+# The kit's own tools for x86-64 programs. To be sourced by a POSIX shell with
+# ROOT set to the top of the repository.
+#
+#   KIT, TOOLS        the kit, and its tools for this machine
+#   LOADER, EMULATOR  what starts an x86-64 program; EMULATOR is empty on x86-64
+#   BUILD             where build output goes
+
+KIT=$(rt doc)
+KIT=$(dirname "$(dirname "$KIT")")
+TOOLS=$KIT/on/$(uname -m)/toolchain
+LOADER=$TOOLS/lib/ld-linux-x86-64.so.2
+EMULATOR=$TOOLS/bin/qemu-x86_64
+[ -x "$EMULATOR" ] || EMULATOR=
+BUILD=$ROOT/target/harness
+
+# The kit's clang comes without headers: stand-ins made of what it predefines.
+kit_headers() {
+    mkdir -p "$BUILD/include"
+    cat >"$BUILD/include/stddef.h.$$" <<'END'
+#pragma once
+typedef __SIZE_TYPE__ size_t;
+typedef __PTRDIFF_TYPE__ ptrdiff_t;
+#define NULL ((void *)0)
+END
+    cat >"$BUILD/include/stdint.h.$$" <<'END'
+#pragma once
+typedef __INT8_TYPE__ int8_t;
+typedef __INT16_TYPE__ int16_t;
+typedef __INT32_TYPE__ int32_t;
+typedef __INT64_TYPE__ int64_t;
+typedef __INTPTR_TYPE__ intptr_t;
+typedef __UINT8_TYPE__ uint8_t;
+typedef __UINT16_TYPE__ uint16_t;
+typedef __UINT32_TYPE__ uint32_t;
+typedef __UINT64_TYPE__ uint64_t;
+typedef __UINTPTR_TYPE__ uintptr_t;
+#define SIZE_MAX __SIZE_MAX__
+#define UINT64_MAX __UINT64_MAX__
+END
+    mv "$BUILD/include/stddef.h.$$" "$BUILD/include/stddef.h"
+    mv "$BUILD/include/stdint.h.$$" "$BUILD/include/stdint.h"
+}
+
+# kit_cc SRC OBJ [FLAGS...]: compiles a C file to an x86-64 object.
+kit_cc() {
+    kit_src=$1
+    kit_obj=$2
+    shift 2
+    kit_headers
+    "$TOOLS/bin/clang" --target=x86_64-unknown-linux-gnu -march=x86-64 -O3 -fPIC \
+        -ffreestanding -nostdinc -isystem "$BUILD/include" "$@" -c "$kit_src" -o "$kit_obj"
+}
+
+# kit_link OUT OBJ...: links objects and static libraries to a program.
+kit_link() {
+    kit_out=$1
+    shift
+    "$TOOLS/bin/ld.lld" -pie -dynamic-linker /lib64/ld-linux-x86-64.so.2 -o "$kit_out" \
+        "$TOOLS/lib/Scrt1.o" "$TOOLS/lib/crti.o" "$TOOLS/lib/crtbeginS.o" "$@" \
+        "$TOOLS/lib/libc.so.6" "$TOOLS/lib/libc_nonshared.a" "$TOOLS/lib/libgcc.a" \
+        "$TOOLS/lib/crtendS.o" "$TOOLS/lib/crtn.o"
+}
+
+# kit_run PROGRAM [ARGS...]: runs a program made by kit_link.
+kit_run() {
+    ${EMULATOR:+"$EMULATOR"} "$LOADER" --library-path "$TOOLS/lib" "$@"
+}

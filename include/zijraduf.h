@@ -1,0 +1,68 @@
+/* zijraduf: parity for stripes of RDP, H-Code and X-Code, proved.
+ *
+ * Link libzijraduf.a (x86-64 Linux). The library keeps no state, allocates
+ * nothing and takes no locks: calls on different stripes may run at once.
+ *
+ * A stripe is rows x columns cells of `cell` bytes each, by the code:
+ *
+ *     code  name     rows   columns  equations
+ *     1     RDP      p - 1  p + 1    2 (p - 1)
+ *     2     H-Code   p - 1  p + 1    2 (p - 1)
+ *     3     X-Code   p      p        2 p
+ *
+ * p is one of 3 5 7 11 13 17 19 23 29 31, and `cell` is 1 to 4,096. The stripe
+ * lies column after column, rows from 0 inside a column: cell number =
+ * column x rows + row, and byte t of a cell is at cell number x cell + t. Some
+ * cells are the XOR of others: those are parity, the rest are data. A stripe is
+ * encoded when every equation of its code holds in every byte.
+ *
+ * Nothing has to be checked before a call. Every number may be anything, 0 and
+ * 2^64 - 1 included. A call that can't be carried out gives a refusal number,
+ * the lowest that applies, and every byte that was lent is as it was:
+ *
+ *     1   code is not 1, 2 or 3
+ *     2   p is not in the list above
+ *     4   cell is not 1 to 4,096
+ *     5   the stripe is not exactly rows x columns x cell bytes long
+ *
+ * The one thing that C can't hand over checked is the memory itself: `stripe`
+ * points to `length` bytes (it may be NULL where length is 0). A call reads and
+ * writes nothing outside them. */
+#ifndef ZIJRADUF_H
+#define ZIJRADUF_H
+
+#include <stddef.h>
+#include <stdint.h>
+
+#ifdef __cplusplus
+extern "C" {
+#endif
+
+/* What describes a stripe. It goes by value into every call. */
+struct zijraduf_shape {
+    uint64_t code; /* 1 RDP, 2 H-Code, 3 X-Code */
+    uint64_t p;    /* the prime */
+    uint64_t cell; /* bytes in a cell */
+};
+
+/* A refusal number, or 0 and a count. The count of a refused call is 0. */
+struct zijraduf_count {
+    uint64_t refusal;
+    uint64_t count;
+};
+
+/* Encode: sets every parity cell so that the stripe is encoded. Data cells stay
+ * as they are, and the bytes found in parity cells have no effect.
+ * Returns 0, or refusal 1, 2, 4 or 5 with every byte as it was. */
+uint64_t zijraduf_encode(struct zijraduf_shape shape, uint8_t *stripe, size_t length);
+
+/* Broken: how many equations of the stripe fail in at least one byte; 0 says
+ * that the stripe is encoded. It only reads.
+ * Gives the count, or refusal 1, 2, 4 or 5. */
+struct zijraduf_count zijraduf_broken(struct zijraduf_shape shape, const uint8_t *stripe, size_t length);
+
+#ifdef __cplusplus
+}
+#endif
+
+#endif
