@@ -1,12 +1,12 @@
 #!/bin/sh
-# Measures encode and broken beside the same algorithm in C, ISA-L, Jerasure and
+# Measures encode, broken and write beside the same algorithm in C, ISA-L, Jerasure and
 # memcpy, prints a table of each measure and holds the figures to the bars. It is a
 # report and no gate: it fails only where something can't be built, or where the
 # bytes are wrong, since nothing wrong is measured.
 #
 #   harness/bench.sh [--quick] [--lib FILE]
 #
-#   --quick     p = 5 and 17, cells of 512 and 4,096 bytes
+#   --quick     p = 5 and 17, for write 5 and 31; cells of 512 and 4,096 bytes
 #   --lib FILE  measures FILE in place of what `rt staticlib zijraduf` makes
 #
 # x86-64: instructions by perf or valgrind, and GB/s. Arm: instructions, by the kit's
@@ -14,11 +14,12 @@
 set -eu
 
 primes='5 7 17 31'
+write_primes=$primes
 cells='512 1000 4096'
 lib=
 while [ $# -gt 0 ]; do
     case $1 in
-    --quick) primes='5 17' cells='512 4096' ;;
+    --quick) primes='5 17' write_primes='5 31' cells='512 4096' ;;
     --lib) lib=$(realpath "${2:?--lib wants a file}") && shift ;;
     *) sed -n '2,/^set/s/^# \{0,1\}//p' "$0" >&2 && exit 2 ;;
     esac
@@ -132,18 +133,37 @@ pick_counter() {
 
 # ---- one shape: figures as lines 'KIND CODE P CELL CALL WHO VALUE' ----
 
+# measure CODE P CELL CALLS...
 measure() {
-    driver check "$@" >"$BUILD/list"
-    awk -v s="$*" '{ print "bytes", s, $1, $2, $3 }' "$BUILD/list"
+    shape="$1 $2 $3"
+    shift 3
+    say "code, p and cell $shape: $*"
+    # A shape and a call hold plain words only: left unquoted to be split.
+    driver check $shape $1 >"$BUILD/list"
+    awk -v s="$shape" '{ print "bytes", s, $1, $2, $3 }' "$BUILD/list"
     case $counter in
     none) ;;
-    emulator) count_emulator "$@" ;;
-    *) count_by $counter "$@" ;;
-    esac | awk -v s="$*" '{ print "instructions", s, $1, $2, $3 }'
+    emulator) count_emulator $shape $1 ;;
+    *) count_by $counter $shape ;;
+    esac | awk -v s="$shape" '{ print "instructions", s, $1, $2, $3 }'
     [ -z "$EMULATOR" ] || return 0
-    for call in encode broken; do
-        driver time "$@" $call "$cold" |
-            awk -v s="$* $call" '{ print "warm", s, $1, $2; print "cold", s, $1, $3 }'
+    for call in "$@"; do
+        driver time $shape $call "$cold" |
+            awk -v s="$shape $call" '{ print "warm", s, $1, $2; print "cold", s, $1, $3 }'
+    done
+}
+
+# Every shape of the primes given, for some calls.
+measure_all() {
+    all_primes=$1
+    shift
+    for code in 1 2 3; do
+        for p in $all_primes; do
+            for cell in $cells; do
+                measure $code "$p" "$cell" "$@" >"$BUILD/shape"
+                cat "$BUILD/shape" >>"$figures"
+            done
+        done
     done
 }
 
@@ -157,7 +177,7 @@ cold_bytes() {
 }
 
 header() {
-    echo '# Encode and broken'
+    echo '# Encode, broken and write'
     echo
     if [ -n "$EMULATOR" ]; then
         echo "- Machine: $(uname -m); x86-64 programs run under the kit's emulator, so there are no times."
@@ -174,7 +194,9 @@ header() {
         "-O3 -march=x86-64); SSE4.1 for ISA-L SSE; $level is the most that ISA-L and memcpy could pick."
     echo "- Instructions of a call: $how."
     echo "- ISA-L: pq_gen beside encode, pq_check beside broken, with as many sources as the code has data columns."
+    echo "  Beside write ec_encode_data_update: the difference of old and new, ready made, into two parities of p - 1 sources."
     echo "  Jerasure: RDP's bit matrix, a smart schedule; its bytes are ours."
+    echo "- Write: a data cell in the middle, with three dependent parity cells for RDP and two for the others."
     if [ -e "$peers/done" ]; then
         echo "- Peers: $(paste -s -d , "$peers/versions" | sed 's/,/, /g')."
     fi
@@ -187,15 +209,8 @@ build
 why=$(fetch_peers) || say "no peers: $why"
 pick_counter
 cold=$(cold_bytes)
-driver stack | awk '{ print "stack 0 0 0 encode ours", $1; print "stack 0 0 0 broken ours", $2 }' >"$figures"
-for code in 1 2 3; do
-    for p in $primes; do
-        for cell in $cells; do
-            say "code $code, p $p, cell $cell"
-            measure $code "$p" "$cell" >"$BUILD/shape"
-            cat "$BUILD/shape" >>"$figures"
-        done
-    done
-done
+driver stack | awk '{ print "stack 0 0 0", $1, "ours", $2 }' >"$figures"
+measure_all "$primes" encode broken
+measure_all "$write_primes" write
 header
 awk -f harness/bench/report.awk "$figures"

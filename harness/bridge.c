@@ -1,12 +1,13 @@
 /* The bridge: reads calls on standard input, makes them, writes the answers to
  * standard output. Every number is 64 bits, low byte first.
  *
- *   request  operation, shape (code, p, cell), the stripe's loan, `given` bytes
- *   answer   guards (0 unchanged, 1 changed before, 2 after, 3 both), refusal,
- *            count, the `given` bytes after the call
+ *   request  operation, shape (code, p, cell), row, column, the loans of the stripe
+ *            and of new bytes, the `given` bytes of each
+ *   answer   guards of each loan (0 unchanged, 1 changed before, 2 after, 3 both),
+ *            refusal, count, the `given` bytes of each after the call
  *
- * A new operation is one more case in `carry_out`; a second lent buffer is one
- * more loan in the request and one more room. */
+ * A new operation is one more case in `carry_out`; one more lent buffer is one more
+ * loan. */
 #include "zijraduf.h"
 
 /* What is used of the C library, which has no headers here. */
@@ -37,16 +38,19 @@ struct loan {
     uint64_t given, claimed, place, offset, sealed;
 };
 
-enum operation { ENCODE = 1, BROKEN = 2 };
+enum operation { ENCODE = 1, BROKEN = 2, WRITE = 3 };
+
+enum { STRIPE, BYTES, LOANS };
 
 struct request {
     uint64_t operation;
     struct zijraduf_shape shape;
-    struct loan stripe;
+    uint64_t row, column;
+    struct loan loans[LOANS];
 };
 
 struct answer {
-    uint64_t guards, refusal, count;
+    uint64_t guards[LOANS], refusal, count;
 };
 
 /* Memory between two inaccessible pages, and the bytes lent in it. */
@@ -107,13 +111,13 @@ static uint64_t changed_guards(const struct room *room) {
     return (before != 0) + 2 * (after != 0);
 }
 
-/* Takes the bytes of a loan into the room. */
+/* Takes the bytes of a loan into the room. Bytes that lie nowhere have no guards. */
 static void lend(struct room *room, const struct loan *loan) {
     if (loan->given > MOST || loan->offset >= 64 || loan->place > NOWHERE) exit(3);
     room->start = room->floor;
     if (loan->place == MIDDLE) room->start += GUARD + loan->offset;
     if (loan->place == BEFORE_PAGE) room->start += ROOM - loan->given;
-    room->end = room->start + loan->given;
+    room->end = loan->place == NOWHERE ? room->floor + ROOM : room->start + loan->given;
     set_guards(room);
     if (loan->given > 0 && !take(room->start, loan->given)) exit(3);
     if (loan->sealed && mprotect(room->floor, ROOM, RIGHT_READ) != 0) exit(3);
@@ -127,37 +131,37 @@ static uint8_t *lent(const struct room *room, const struct loan *loan) {
     return loan->place == NOWHERE ? NULL : room->start;
 }
 
-static struct answer carry_out(const struct request *request, uint8_t *stripe) {
-    struct answer answer = {0, 0, 0};
-    size_t length = request->stripe.claimed;
+static struct zijraduf_count carry_out(const struct request *request, uint8_t *stripe, const uint8_t *bytes) {
+    size_t length = request->loans[STRIPE].claimed;
     switch (request->operation) {
     case ENCODE:
-        answer.refusal = zijraduf_encode(request->shape, stripe, length);
-        break;
-    case BROKEN: {
-        struct zijraduf_count broken = zijraduf_broken(request->shape, stripe, length);
-        answer.refusal = broken.refusal;
-        answer.count = broken.count;
-        break;
+        return (struct zijraduf_count){zijraduf_encode(request->shape, stripe, length), 0};
+    case BROKEN:
+        return zijraduf_broken(request->shape, stripe, length);
+    case WRITE:
+        return zijraduf_write(request->shape, stripe, length, request->row, request->column, bytes,
+                              request->loans[BYTES].claimed);
     }
-    default:
-        exit(3);
-    }
-    return answer;
+    exit(3);
 }
 
 int main(void) {
-    struct room room = make_room();
+    struct room rooms[LOANS] = {make_room(), make_room()};
     struct request request;
+    const struct loan *loans = request.loans;
     while (take(&request, sizeof request)) {
-        lend(&room, &request.stripe);
+        for (int k = 0; k < LOANS; k++) lend(&rooms[k], &loans[k]);
         alarm(SECONDS_A_CALL);
-        struct answer answer = carry_out(&request, lent(&room, &request.stripe));
+        struct zijraduf_count came =
+            carry_out(&request, lent(&rooms[STRIPE], &loans[STRIPE]), lent(&rooms[BYTES], &loans[BYTES]));
         alarm(0);
-        unseal(&room, &request.stripe);
-        answer.guards = changed_guards(&room);
+        struct answer answer = {{0, 0}, came.refusal, came.count};
+        for (int k = 0; k < LOANS; k++) {
+            unseal(&rooms[k], &loans[k]);
+            answer.guards[k] = changed_guards(&rooms[k]);
+        }
         put(&answer, sizeof answer);
-        put(room.start, request.stripe.given);
+        for (int k = 0; k < LOANS; k++) put(rooms[k].start, loans[k].given);
     }
     return 0;
 }

@@ -24,10 +24,14 @@
  *     2   p is not in the list above
  *     4   cell is not 1 to 4,096
  *     5   the stripe is not exactly rows x columns x cell bytes long
+ *     6   a row or a column is outside the stripe
+ *     7   a small write to a parity cell
+ *     8   new bytes that are not one cell long
  *
- * The one thing that C can't hand over checked is the memory itself: `stripe`
- * points to `length` bytes (it may be NULL where length is 0). A call reads and
- * writes nothing outside them. */
+ * The one thing that C can't hand over checked is the memory itself: a pointer
+ * points to as many bytes as the length beside it says (it may be NULL where
+ * that is 0), and new bytes don't lie in the stripe. A call reads and writes
+ * nothing else. */
 #ifndef ZIJRADUF_H
 #define ZIJRADUF_H
 
@@ -60,6 +64,19 @@ uint64_t zijraduf_encode(struct zijraduf_shape shape, uint8_t *stripe, size_t le
  * that the stripe is encoded. It only reads.
  * Gives the count, or refusal 1, 2, 4 or 5. */
 struct zijraduf_count zijraduf_broken(struct zijraduf_shape shape, const uint8_t *stripe, size_t length);
+
+/* Small write: puts new bytes into one data cell, and changes the parity cells
+ * that depend on it, as far as the equations say: with the difference of old
+ * and new bytes put alone into a stripe of zero data and encoded, the stripe
+ * afterwards is the XOR of the old stripe with that one. An encoded stripe stays
+ * encoded; a stripe that was not encoded fails where it failed. Only the data
+ * cell and the parity cells that depend on it are read or written.
+ * Gives how many parity cells depend on this position, whatever the bytes: 2 for
+ * H-Code and X-Code; for RDP 2 where row = 0 or row + column = p - 1, else 3.
+ * Or refusal 1, 2, 4, 5, 6, 7 or 8, with every byte as it was. */
+struct zijraduf_count zijraduf_write(struct zijraduf_shape shape, uint8_t *stripe, size_t length,
+                                     uint64_t row, uint64_t column,
+                                     const uint8_t *bytes, size_t bytes_length);
 
 #ifdef __cplusplus
 }

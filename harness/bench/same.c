@@ -1,6 +1,7 @@
 /* The same algorithm in C, written as plainly as the library is: every parity
  * cell is the XOR of a line of cells, summed in blocks of 128 bytes that stay on
- * the stack. Compiled alone, by the compiler and for the instruction set that
+ * the stack; a small write adds the difference of old and new bytes to the parity
+ * cells that depend on its cell. Compiled alone, by the compiler and for the instruction set that
  * the library gets. */
 #include "same.h"
 
@@ -174,5 +175,89 @@ struct zijraduf_count same_broken(struct zijraduf_shape shape, const uint8_t *st
         if (!is_sum(stripe, places, l.count, (l.parity_column * rows + l.parity_row) * shape.cell, shape.cell))
             count += 1;
     }
+    return (struct zijraduf_count){0, count};
+}
+
+static int is_parity(struct zijraduf_shape shape, uint64_t row, uint64_t column)
+{
+    if (shape.code == 1)
+        return column >= shape.p - 1;
+    if (shape.code == 2)
+        return column == shape.p || column == row + 1;
+    return row >= shape.p - 2;
+}
+
+static uint64_t write_refusal(struct zijraduf_shape shape, size_t length, uint64_t row, uint64_t column,
+                              size_t bytes_length)
+{
+    uint64_t no = refusal(shape, length);
+    if (no != 0)
+        return no;
+    if (row >= rows_of(shape) || column >= columns_of(shape))
+        return 6;
+    if (is_parity(shape, row, column))
+        return 7;
+    return bytes_length != shape.cell ? 8 : 0;
+}
+
+/* The equations whose parity depends on a data cell. One past the last is none. */
+struct dependents {
+    uint64_t first, second, third;
+};
+
+static struct dependents dependents_of(struct zijraduf_shape shape, uint64_t i, uint64_t j)
+{
+    uint64_t p = shape.p, n = p - 1;
+    if (shape.code == 1)
+        return (struct dependents){i, n + (i + j) % p, n + (i + p - 1) % p};
+    if (shape.code == 2)
+        return (struct dependents){i, n + (j + p - 2 - i) % p, 2 * n};
+    return (struct dependents){(j + p - 2 - i) % p, p + (j + i + 2) % p, 2 * p};
+}
+
+static void add_block_difference(uint8_t *s, size_t to, size_t from, const uint8_t *bytes, size_t at, size_t n)
+{
+    uint8_t sum[BLOCK] = {0};
+    add_bytes(sum, s, to + at, n);
+    add_bytes(sum, s, from + at, n);
+    add_bytes(sum, bytes, at, n);
+    store(s, to + at, sum, n);
+}
+
+static void add_difference(uint8_t *s, size_t to, size_t from, const uint8_t *bytes, size_t n)
+{
+    size_t done = 0;
+    while (n - done >= BLOCK) {
+        add_block_difference(s, to, from, bytes, done, BLOCK);
+        done += BLOCK;
+    }
+    add_block_difference(s, to, from, bytes, done, n - done);
+}
+
+/* Adds the difference to the parity of equation e, where there is one, and gives
+ * how many cells that were. */
+static uint64_t update(struct zijraduf_shape shape, uint8_t *stripe, uint64_t e, size_t from, const uint8_t *bytes)
+{
+    uint64_t rows = rows_of(shape);
+    if (e == 2 * rows)
+        return 0;
+    struct line l = line_of(shape.code, shape.p, e);
+    add_difference(stripe, (l.parity_column * rows + l.parity_row) * shape.cell, from, bytes, shape.cell);
+    return 1;
+}
+
+struct zijraduf_count same_write(struct zijraduf_shape shape, uint8_t *stripe, size_t length, uint64_t row,
+                                 uint64_t column, const uint8_t *bytes, size_t bytes_length)
+{
+    uint64_t no = write_refusal(shape, length, row, column, bytes_length);
+    if (no != 0)
+        return (struct zijraduf_count){no, 0};
+    size_t from = (column * rows_of(shape) + row) * shape.cell;
+    struct dependents d = dependents_of(shape, row, column);
+    uint64_t count = update(shape, stripe, d.first, from, bytes);
+    count += update(shape, stripe, d.second, from, bytes);
+    count += update(shape, stripe, d.third, from, bytes);
+    for (size_t i = 0; i < shape.cell; i++)
+        stripe[from + i] = bytes[i];
     return (struct zijraduf_count){0, count};
 }

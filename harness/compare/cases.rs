@@ -1,10 +1,10 @@
 //! Which calls are compared. Case number N of a seed is always the same, with or
 //! without --long.
 
-use crate::bridge::Place;
+use crate::bridge::{Loan, Place};
 use crate::random::Random;
-use crate::second::{Answer, Layout, Operation, Second, Shape, PRIMES};
-use Operation::{Broken, Encode};
+use crate::second::{Answer, Call, Layout, Operation, Second, Shape, PRIMES};
+use Operation::{Broken, Encode, Write};
 
 /// What the stripe holds before the call. A wholly random stripe has junk in its
 /// parity cells too.
@@ -20,24 +20,31 @@ pub enum Fill {
     LoneByteInCell(usize),
 }
 
+/// The new bytes of a small write: random, those that the cell holds, or those with
+/// one of them changed.
+#[derive(Clone, Copy, PartialEq, Debug)]
+pub enum New {
+    Random,
+    Same,
+    OneByte,
+}
+
 /// A call that the scope document gives the answer of.
 pub struct Written {
-    operation: Operation,
-    shape: Shape,
+    call: Call,
     before: &'static [u8],
+    bytes: &'static [u8],
     pub answer: Answer,
     pub after: &'static [u8],
 }
 
-/// A call and how its stripe is lent: `claimed` is the length that the call is
-/// told, and sealed bytes can't be written while it runs.
+/// A call, and how the stripe and the new bytes are filled and lent.
 pub struct Case {
-    pub operation: Operation,
-    pub shape: Shape,
-    pub claimed: u64,
+    pub call: Call,
     pub fill: Fill,
-    pub place: Place,
-    pub sealed: bool,
+    pub new: New,
+    pub stripe: Loan,
+    pub bytes: Loan,
 }
 
 const P1: [u8; 8] = [0x01, 0x04, 0x02, 0x08, 0x03, 0x0C, 0x0D, 0x06];
@@ -48,7 +55,10 @@ const P3: [u8; 9] = [0x01, 0x04, 0x02, 0x02, 0x01, 0x04, 0x04, 0x02, 0x01];
 const P3_JUNK: [u8; 9] = [0x01, 0xEE, 0xEE, 0x02, 0xEE, 0xEE, 0x04, 0xEE, 0xEE];
 const P10: [u8; 8] = [0x00, 0x04, 0x02, 0x0A, 0x03, 0x0C, 0x0D, 0x06];
 
-pub static WRITTEN: [Written; 17] = [
+const P4: [u8; 8] = [0x05, 0x04, 0x02, 0x08, 0x07, 0x0C, 0x09, 0x06];
+const P5: [u8; 8] = [0x01, 0x00, 0x02, 0x08, 0x03, 0x08, 0x09, 0x02];
+
+pub static WRITTEN: [Written; 22] = [
     encoded(1, &P1_JUNK, &P1),
     encoded(2, &P2_JUNK, &P2),
     encoded(3, &P3_JUNK, &P3),
@@ -66,21 +76,42 @@ pub static WRITTEN: [Written; 17] = [
     refused(Encode, 3, 4097, 4),
     refused(Broken, 9, 1, 2),
     refused(Broken, 3, 4097, 4),
+    changed((0, 0), &[0x05], &P4, 2),
+    changed((1, 0), &[0x00], &P5, 3),
+    changed((1, 0), &[0x04], &P1, 3),
+    refused(Write, 33, 1, 2),
+    refused(Write, 3, 0, 4),
 ];
 
 const fn encoded(code: u64, before: &'static [u8], after: &'static [u8]) -> Written {
-    let shape = Shape { code, p: 3, cell: 1 };
-    Written { operation: Encode, shape, before, answer: Answer { refusal: 0, count: 0 }, after }
+    let call = call(Encode, Shape { code, p: 3, cell: 1 }, before.len() as u64);
+    Written { call, before, bytes: &[], answer: Answer { refusal: 0, count: 0 }, after }
 }
 
 const fn counted(code: u64, stripe: &'static [u8], count: u64) -> Written {
-    let shape = Shape { code, p: 3, cell: 1 };
-    Written { operation: Broken, shape, before: stripe, answer: Answer { refusal: 0, count }, after: stripe }
+    let call = call(Broken, Shape { code, p: 3, cell: 1 }, stripe.len() as u64);
+    Written { call, before: stripe, bytes: &[], answer: Answer { refusal: 0, count }, after: stripe }
 }
 
 const fn refused(operation: Operation, p: u64, cell: u64, refusal: u64) -> Written {
-    let shape = Shape { code: 1, p, cell };
-    Written { operation, shape, before: &P1, answer: Answer { refusal, count: 0 }, after: &P1 }
+    let call = call(operation, Shape { code: 1, p, cell }, P1.len() as u64);
+    Written { call, before: &P1, bytes: &[], answer: Answer { refusal, count: 0 }, after: &P1 }
+}
+
+/// A small write into P1.
+const fn changed(
+    (row, column): (u64, u64),
+    bytes: &'static [u8],
+    after: &'static [u8],
+    count: u64,
+) -> Written {
+    let call = call(Write, Shape { code: 1, p: 3, cell: 1 }, P1.len() as u64);
+    let call = Call { row, column, bytes_length: bytes.len() as u64, ..call };
+    Written { call, before: &P1, bytes, answer: Answer { refusal: 0, count }, after }
+}
+
+const fn call(operation: Operation, shape: Shape, length: u64) -> Call {
+    Call { operation, shape, length, row: 0, column: 0, bytes_length: 0 }
 }
 
 // Good and bad parameters. The large ones look like good ones when cut short.
@@ -106,7 +137,7 @@ const BROKEN_FILLS: [Fill; 6] = [
 /// The most bytes lent; a call that is told more is told of bytes that aren't there.
 const MOST: u64 = 4 << 20;
 
-/// All the cases of a seed, the last `rounds` of them with random shapes.
+/// All the cases of a seed, the last of them `rounds` with random shapes.
 pub fn all(second: &Second, seed: u64, rounds: usize) -> Vec<Case> {
     let mut cases = Cases { second, random: Random::new(seed, 0), list: Vec::new() };
     cases.written();
@@ -114,16 +145,20 @@ pub fn all(second: &Second, seed: u64, rounds: usize) -> Vec<Case> {
     cases.every_p();
     cases.lone_bytes();
     cases.listed_shapes();
-    for _ in 0..rounds {
-        cases.random_shape();
+    cases.writes();
+    for round in 0..rounds {
+        cases.random_call();
+        if round % 2 == 0 {
+            cases.random_write();
+        }
     }
     cases.list
 }
 
-struct Cases<'a> {
-    second: &'a Second,
-    random: Random,
-    list: Vec<Case>,
+pub struct Cases<'a> {
+    pub second: &'a Second,
+    pub random: Random,
+    pub list: Vec<Case>,
 }
 
 impl Cases<'_> {
@@ -134,11 +169,13 @@ impl Cases<'_> {
     }
 
     fn push_at(&mut self, place: Place, operation: Operation, shape: Shape, claimed: u64, fill: Fill) {
-        let sealed = operation == Broken && self.random.below(4) == 0;
-        self.list.push(Case { operation, shape, claimed, fill, place, sealed });
+        let stripe = Loan { place, sealed: operation == Broken && self.random.below(4) == 0 };
+        let bytes = Loan { place: Place::Null, sealed: false };
+        let call = call(operation, shape, claimed);
+        self.list.push(Case { call, fill, new: New::Random, stripe, bytes });
     }
 
-    fn places(&mut self) -> [Place; 3] {
+    pub fn places(&mut self) -> [Place; 3] {
         let offset = self.random.below(64) as u64;
         [Place::Middle(offset), Place::BeforePage, Place::AfterPage]
     }
@@ -146,7 +183,7 @@ impl Cases<'_> {
     /// The stripes to try, as they are written.
     fn written(&mut self) {
         for (n, written) in WRITTEN.iter().enumerate() {
-            self.push(written.operation, written.shape, written.before.len() as u64, Fill::Written(n));
+            self.push_call(written.call, Fill::Written(n), New::Random);
         }
     }
 
@@ -180,7 +217,7 @@ impl Cases<'_> {
     }
 
     /// The shape, or a small good one that keeps what is good of its code and p.
-    fn mended(&self, shape: Shape) -> Shape {
+    pub fn mended(&self, shape: Shape) -> Shape {
         if self.second.length(shape).is_some() {
             return shape;
         }
@@ -246,7 +283,7 @@ impl Cases<'_> {
         }
     }
 
-    fn random_shape(&mut self) {
+    pub fn random_shape(&mut self) -> Shape {
         let random = &mut self.random;
         let (code, p) = (1 + random.below(3) as u64, random.one_of(&PRIMES));
         let most = if p <= 7 || random.below(100) == 0 { 4096 } else { 300 };
@@ -255,40 +292,79 @@ impl Cases<'_> {
             1 => 1 + random.below(20) as u64,
             _ => 1 + random.below(most) as u64,
         };
-        let (operation, fill) = match random.below(3) {
-            0 => (Encode, random.one_of(&ENCODE_FILLS)),
-            _ => (Broken, random.one_of(&BROKEN_FILLS)),
+        Shape { code, p, cell }
+    }
+
+    fn random_call(&mut self) {
+        let shape = self.random_shape();
+        let (operation, fill) = match self.random.below(3) {
+            0 => (Encode, self.random.one_of(&ENCODE_FILLS)),
+            _ => (Broken, self.random.one_of(&BROKEN_FILLS)),
         };
-        let shape = Shape { code, p, cell };
         let length = self.second.length(shape).expect("a good shape");
         self.push(operation, shape, length, fill);
     }
 }
 
+/// How many bytes are lent to a call that is told of `claimed`.
+fn lent_length(claimed: u64) -> usize {
+    if claimed <= MOST {
+        claimed as usize
+    } else {
+        64
+    }
+}
+
 impl Case {
-    /// The bytes lent, before the call of case number `n`.
-    pub fn stripe(&self, second: &Second, seed: u64, n: usize) -> Vec<u8> {
+    /// The stripe and the new bytes before the call of case number `n`.
+    pub fn lent(&self, second: &Second, seed: u64, n: usize) -> [Vec<u8>; 2] {
         let mut random = Random::new(seed, n as u64);
-        let mut stripe = vec![0; if self.claimed <= MOST { self.claimed as usize } else { 64 }];
+        let stripe = self.stripe(second, &mut random);
+        let bytes = self.new_bytes(second, &stripe, &mut random);
+        [stripe, bytes]
+    }
+
+    fn stripe(&self, second: &Second, random: &mut Random) -> Vec<u8> {
+        let Shape { code, p, cell } = self.call.shape;
+        let mut stripe = vec![0; lent_length(self.call.length)];
         match self.fill {
             Fill::Written(n) => stripe.copy_from_slice(WRITTEN[n].before),
             Fill::LoneByteInCell(n) => {
-                let cell = self.shape.cell as usize;
+                let cell = cell as usize;
                 stripe[n * cell + random.below(cell)] = random.nonzero_byte();
             }
             Fill::Random => random.fill(&mut stripe),
             _ => {
-                let layout = second.layout(self.shape.code, self.shape.p).expect("a good shape");
+                let layout = second.layout(code, p).expect("a good shape");
                 random.fill(&mut stripe);
-                layout.encode(self.shape.cell as usize, &mut stripe);
-                self.damage(layout, &mut stripe, &mut random);
+                layout.encode(cell as usize, &mut stripe);
+                self.damage(layout, &mut stripe, random);
             }
         }
         stripe
     }
 
+    fn new_bytes(&self, second: &Second, stripe: &[u8], random: &mut Random) -> Vec<u8> {
+        let Call { shape, row, column, .. } = self.call;
+        let mut bytes = vec![0; lent_length(self.call.bytes_length)];
+        random.fill(&mut bytes);
+        if let Fill::Written(n) = self.fill {
+            bytes.copy_from_slice(WRITTEN[n].bytes);
+        }
+        if self.new != New::Random && second.refusal(&self.call) == 0 {
+            let layout = second.layout(shape.code, shape.p).expect("a good shape");
+            let start = layout.start((row as usize, column as usize), bytes.len());
+            bytes = stripe[start..start + bytes.len()].to_vec();
+        }
+        if self.new == New::OneByte && !bytes.is_empty() {
+            let (any, last) = (random.below(bytes.len()), bytes.len() - 1);
+            bytes[random.one_of(&[0, any, last])] ^= random.nonzero_byte();
+        }
+        bytes
+    }
+
     fn damage(&self, layout: &Layout, stripe: &mut [u8], random: &mut Random) {
-        let cell = self.shape.cell as usize;
+        let cell = self.call.shape.cell as usize;
         let column = layout.rows * cell;
         match self.fill {
             Fill::BitDamaged => {

@@ -7,10 +7,11 @@ mod bridge;
 mod cases;
 mod random;
 mod second;
+mod writes;
 
-use bridge::Bridge;
+use bridge::{Bridge, Loan};
 use cases::{Case, Fill, WRITTEN};
-use second::{Answer, Second, Shape};
+use second::{Answer, Call, Operation, Second, Shape};
 use std::io::{stderr, IsTerminal};
 use std::process::ExitCode;
 use std::time::{Duration, Instant, SystemTime, UNIX_EPOCH};
@@ -73,8 +74,8 @@ fn run(options: &Options) -> Result<usize, String> {
     let mut progress = Progress::new(calls);
     for n in chosen {
         let case = &cases[n - 1];
-        let stripe = case.stripe(&second, options.seed, n);
-        if let Err(found) = compare(&second, &mut bridge, case, &stripe) {
+        let lent = case.lent(&second, options.seed, n);
+        if let Err(found) = compare(&second, &mut bridge, case, &lent) {
             progress.end();
             return Err(report(case, &found, options.seed, n));
         }
@@ -84,21 +85,28 @@ fn run(options: &Options) -> Result<usize, String> {
     bridge.end().map(|()| calls)
 }
 
-fn compare(second: &Second, bridge: &mut Bridge, case: &Case, stripe: &[u8]) -> Result<(), String> {
-    let mut after = stripe.to_vec();
-    let answer = second.call(case.operation, case.shape, &mut after, case.claimed);
+fn compare(second: &Second, bridge: &mut Bridge, case: &Case, lent: &[Vec<u8>; 2]) -> Result<(), String> {
+    let [stripe, bytes] = lent;
+    let mut after = stripe.clone();
+    let answer = second.call(&case.call, &mut after, bytes);
     if let Fill::Written(n) = case.fill {
         let written = &WRITTEN[n];
         same_answer("the second program gave", written.answer, answer)?;
-        same_bytes("the second program gave", case, written.after, &after)?;
+        same_stripe("the second program gave", case, written.after, &after)?;
     }
-    let reply = bridge.call(case, stripe)?;
-    if reply.guards != 0 {
-        let side = ["", "before", "after", "on both sides of"][reply.guards as usize % 4];
-        return Err(format!("bytes {side} the lent ones were changed"));
+    let reply = bridge.call(case, lent)?;
+    for (guards, what) in reply.guards.into_iter().zip(["stripe", "new bytes"]) {
+        if guards != 0 {
+            let side = ["", "before", "after", "on both sides of"][guards as usize % 4];
+            return Err(format!("memory {side} the {what} was changed"));
+        }
     }
     same_answer("came", answer, reply.answer)?;
-    same_bytes("came", case, &after, &reply.stripe)
+    same_stripe("came", case, &after, &reply.lent[0])?;
+    if reply.lent[1] != *bytes {
+        return Err("the new bytes were changed".into());
+    }
+    Ok(())
 }
 
 fn same_answer(who: &str, expected: Answer, came: Answer) -> Result<(), String> {
@@ -109,25 +117,29 @@ fn same_answer(who: &str, expected: Answer, came: Answer) -> Result<(), String> 
     Err(format!("expected {}, {who} {}", text(expected), text(came)))
 }
 
-fn same_bytes(who: &str, case: &Case, expected: &[u8], came: &[u8]) -> Result<(), String> {
+fn same_stripe(who: &str, case: &Case, expected: &[u8], came: &[u8]) -> Result<(), String> {
     let Some(at) = (0..expected.len()).find(|&at| expected[at] != came[at]) else {
         return Ok(());
     };
-    let cell = case.shape.cell.max(1);
+    let cell = case.call.shape.cell.max(1);
     let place = format!("byte {at} (cell {}, its byte {})", at as u64 / cell, at as u64 % cell);
     Err(format!("{place}: expected {:02X}, {who} {:02X}", expected[at], came[at]))
 }
 
 /// The one line about a difference.
 fn report(case: &Case, found: &str, seed: u64, n: usize) -> String {
-    let Shape { code, p, cell } = case.shape;
-    let length = case.claimed;
-    let sealed = if case.sealed { ", sealed" } else { "" };
-    let operation = format!("{:?}", case.operation).to_lowercase();
+    let Call { operation, shape, length, row, column, bytes_length } = case.call;
+    let Shape { code, p, cell } = shape;
+    let seal = |loan: &Loan| if loan.sealed { ", sealed" } else { "" };
+    let mut lent = format!("({:?}, {:?}{})", case.fill, case.stripe.place, seal(&case.stripe));
+    if operation == Operation::Write {
+        let new = format!("({:?}, {:?}{})", case.new, case.bytes.place, seal(&case.bytes));
+        lent += &format!(" row={row} column={column} bytes_length={bytes_length} {new}");
+    }
+    let operation = format!("{operation:?}").to_lowercase();
     format!(
-        "DIFFERENT: {operation} code={code} p={p} cell={cell} length={length} ({:?}, {:?}{sealed}): {found}; \
-         replay: harness/compare.sh --seed {seed} --only {n}",
-        case.fill, case.place
+        "DIFFERENT: {operation} code={code} p={p} cell={cell} length={length} {lent}: {found}; \
+         replay: harness/compare.sh --seed {seed} --only {n}"
     )
 }
 

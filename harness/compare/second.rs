@@ -14,6 +14,19 @@ pub struct Shape {
 pub enum Operation {
     Encode = 1,
     Broken = 2,
+    Write = 3,
+}
+
+/// What a call is told beside the bytes. Row, column and the length of the new
+/// bytes are for a small write.
+#[derive(Clone, Copy)]
+pub struct Call {
+    pub operation: Operation,
+    pub shape: Shape,
+    pub length: u64,
+    pub row: u64,
+    pub column: u64,
+    pub bytes_length: u64,
 }
 
 #[derive(Clone, Copy, PartialEq, Debug)]
@@ -23,7 +36,7 @@ pub struct Answer {
 }
 
 /// (row, column)
-type Position = (usize, usize);
+pub type Position = (usize, usize);
 
 /// The parity cell is the XOR of the sources.
 struct Equation {
@@ -72,8 +85,38 @@ impl Layout {
         self.equations.iter().filter(fails).count() as u64
     }
 
+    /// New bytes in a data cell: with the difference of old and new alone in a
+    /// stripe of zero data and encoded, the XOR of the stripe with that one.
+    fn write(&self, position: Position, bytes: &[u8], stripe: &mut [u8]) {
+        let start = self.start(position, bytes.len());
+        let difference: Vec<u8> = bytes.iter().zip(&stripe[start..]).map(|(new, old)| new ^ old).collect();
+        for (byte, change) in stripe.iter_mut().zip(self.alone(position, &difference)) {
+            *byte ^= change;
+        }
+    }
+
+    /// How many parity cells are not zero with 1 alone at that position in a stripe
+    /// of one-byte cells.
+    fn dependents(&self, position: Position) -> u64 {
+        let stripe = self.alone(position, &[1]);
+        self.equations.iter().filter(|equation| stripe[self.start(equation.parity, 1)] != 0).count() as u64
+    }
+
+    /// The encoded stripe whose data is zero but for one cell.
+    fn alone(&self, position: Position, bytes: &[u8]) -> Vec<u8> {
+        let (start, cell) = (self.start(position, bytes.len()), bytes.len());
+        let mut stripe = vec![0; self.cells() * cell];
+        stripe[start..start + cell].copy_from_slice(bytes);
+        self.encode(cell, &mut stripe);
+        stripe
+    }
+
+    pub fn is_parity(&self, position: Position) -> bool {
+        self.equations.iter().any(|equation| equation.parity == position)
+    }
+
     /// Where a cell's bytes start: cell number = column x rows + row.
-    fn start(&self, (row, column): Position, cell: usize) -> usize {
+    pub fn start(&self, (row, column): Position, cell: usize) -> usize {
         (column * self.rows + row) * cell
     }
 
@@ -139,28 +182,41 @@ impl Second {
     }
 
     /// The lowest refusal number that applies, or 0.
-    fn refusal(&self, shape: Shape, length: u64) -> u64 {
-        if !(1..=3).contains(&shape.code) {
-            1
-        } else if !PRIMES.contains(&shape.p) {
-            2
-        } else if !(1..=4096).contains(&shape.cell) {
+    pub fn refusal(&self, call: &Call) -> u64 {
+        let shape = call.shape;
+        let Some(layout) = self.layout(shape.code, shape.p) else {
+            return if (1..=3).contains(&shape.code) { 2 } else { 1 };
+        };
+        if !(1..=4096).contains(&shape.cell) {
             4
-        } else if self.length(shape) != Some(length) {
+        } else if self.length(shape) != Some(call.length) {
             5
+        } else if call.operation != Operation::Write {
+            0
+        } else if call.row >= layout.rows as u64 || call.column >= layout.columns as u64 {
+            6
+        } else if layout.is_parity((call.row as usize, call.column as usize)) {
+            7
+        } else if call.bytes_length != shape.cell {
+            8
         } else {
             0
         }
     }
 
-    /// A call with a stripe said to be `length` bytes long.
-    pub fn call(&self, operation: Operation, shape: Shape, stripe: &mut [u8], length: u64) -> Answer {
-        let refusal = self.refusal(shape, length);
+    /// Makes a call with a stripe and new bytes.
+    pub fn call(&self, call: &Call, stripe: &mut [u8], bytes: &[u8]) -> Answer {
+        let refusal = self.refusal(call);
         let mut count = 0;
-        if let (0, Some(layout)) = (refusal, self.layout(shape.code, shape.p)) {
-            match operation {
-                Operation::Encode => layout.encode(shape.cell as usize, stripe),
-                Operation::Broken => count = layout.broken(shape.cell as usize, stripe),
+        if let (0, Some(layout)) = (refusal, self.layout(call.shape.code, call.shape.p)) {
+            let (cell, position) = (call.shape.cell as usize, (call.row as usize, call.column as usize));
+            match call.operation {
+                Operation::Encode => layout.encode(cell, stripe),
+                Operation::Broken => count = layout.broken(cell, stripe),
+                Operation::Write => {
+                    layout.write(position, bytes, stripe);
+                    count = layout.dependents(position);
+                }
             }
         }
         Answer { refusal, count }

@@ -1,8 +1,18 @@
--- The laws behind the shape of a stripe, its refusals, the walk through an equation's cells, and the order of the equations.
+-- The laws behind the shape of a stripe, its refusals, the walk through an equation's cells, the order of the equations, and the parity cells that depend on a data cell.
+-- Last: that any two columns of a solution are determined by the others.
 pub mod Shapes
 pub mod Refused
 pub mod Residues
 pub mod Lines
 pub mod Ordered
-pub mod Places
 pub mod Parity
+pub mod Places
+pub mod Positions
+pub mod Depends
+pub mod Paths
+pub mod Solutions
+pub mod Columns
+pub mod TwoRdp
+pub mod TwoHcode
+pub mod TwoXcode
+pub mod TwoColumns

@@ -134,14 +134,14 @@ module _ (s : Shape) (w : WellFormed s) where
   -- ---- RDP
 
   module _ (is-rdp : s .code ≡ 1) where
-    rdp-rows : s .p - 1 ≡ rows s
+    pub rdp-rows : s .p - 1 ≡ rows s
     rdp-rows = rows-other s w (λ e. omega arith)
 
-    rdp-row-is : (q : ℕ) → q < s .p - 1 → equation s q ≡ rdpRow (s .p) q
+    pub rdp-row-is : (q : ℕ) → q < s .p - 1 → equation s q ≡ rdpRow (s .p) q
     unfolding equation
     rdp-row-is q l = rw (is-rdp, lt-ltb q (s .p - 1) l) refl
 
-    rdp-diagonal-is : (q : ℕ) → s .p - 1 ≤ q → equation s q ≡ rdpDiagonal (s .p) (q - (s .p - 1))
+    pub rdp-diagonal-is : (q : ℕ) → s .p - 1 ≤ q → equation s q ≡ rdpDiagonal (s .p) (q - (s .p - 1))
     unfolding equation
     rdp-diagonal-is q l = rw (is-rdp, le-ltb q (s .p - 1) l) refl
 
@@ -204,14 +204,14 @@ module _ (s : Shape) (w : WellFormed s) where
   -- ---- H-Code: both families start in the column after their parity column's next, r + 2
 
   module _ (is-hcode : s .code ≡ 2) where
-    hcode-rows : s .p - 1 ≡ rows s
+    pub hcode-rows : s .p - 1 ≡ rows s
     hcode-rows = rows-other s w (λ e. omega arith)
 
-    hcode-row-is : (q : ℕ) → q < s .p - 1 → equation s q ≡ hcodeRow (s .p) q
+    pub hcode-row-is : (q : ℕ) → q < s .p - 1 → equation s q ≡ hcodeRow (s .p) q
     unfolding equation
     hcode-row-is q l = rw (is-hcode, lt-ltb q (s .p - 1) l) refl
 
-    hcode-anti-is : (q : ℕ) → s .p - 1 ≤ q → equation s q ≡ hcodeAntiDiagonal (s .p) (q - (s .p - 1))
+    pub hcode-anti-is : (q : ℕ) → s .p - 1 ≤ q → equation s q ≡ hcodeAntiDiagonal (s .p) (q - (s .p - 1))
     unfolding equation
     hcode-anti-is q l = rw (is-hcode, le-ltb q (s .p - 1) l) refl
 
@@ -301,11 +301,11 @@ module _ (s : Shape) (w : WellFormed s) where
   -- ---- X-Code
 
   module _ (is-xcode : s .code ≡ 3) where
-    xcode-first-is : (q : ℕ) → q < s .p → equation s q ≡ xcodeFirst (s .p) q
+    pub xcode-first-is : (q : ℕ) → q < s .p → equation s q ≡ xcodeFirst (s .p) q
     unfolding equation
     xcode-first-is q l = rw (is-xcode, lt-ltb q (s .p) l) refl
 
-    xcode-second-is : (q : ℕ) → s .p ≤ q → equation s q ≡ xcodeSecond (s .p) (q - s .p)
+    pub xcode-second-is : (q : ℕ) → s .p ≤ q → equation s q ≡ xcodeSecond (s .p) (q - s .p)
     unfolding equation
     xcode-second-is q l = rw (is-xcode, le-ltb q (s .p) l) refl
 

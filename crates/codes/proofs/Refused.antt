@@ -1,16 +1,18 @@
 -- Laws of the refusals of a lent stripe: each number from the tests before it, and what holds where there is none.
-use mathlib.Core.Path.{_≡_, refl, _∙_}
+use mathlib.Core.Path.{_≡_, refl, sym, ap, _∙_}
 use mathlib.Core.Logic.{_≢_}
 use mathlib.Core.List.{[], _∷_}
 use mathlib.Core.Bool.{Bool, true, false, cond, not, _&&_, _||_}
-use Prim.Native.Nat.{ℕ, _≤_, _<_}
+use Prim.Native.Nat.{ℕ, zero, suc, _≤_, _<_}
 use native.Mathlib.Omega.{arith}
 use lib.Dec.{eqb, leb}
-use borrow.Author.Tests.{eq-eqb, ne-eqb, le-leb, lt-leb}
+use borrow.Author.Tests.{eq-eqb, ne-eqb, le-leb, lt-leb, lt-ltb, le-ltb}
 use Rattle.xor.proofs.Cases.{by-test, by-equal, by-less}
 use Rattle.codes.specs.declared.Shape.{Shape}
-use Rattle.codes.specs.Shape.{listed, stripeLength, WellFormed}
-use Rattle.codes.specs.Refusals.{order, applies, firstOf, refusal, stripeFaults}
+use Rattle.codes.specs.Shape.{listed, rows, columns, cellNumber, stripeLength, WellFormed}
+use Rattle.codes.specs.Encoded.{isParity}
+use Rattle.codes.specs.Refusals.{order, applies, firstOf, refusal, outside, stripeFaults, writeFaults}
+use Rattle.codes.specs.Depends.{WriteRight}
 use Rattle.codes.proofs.Shapes.{each-code}
 
 -- the four tests in their order
@@ -72,7 +74,7 @@ module _ (s : Shape) (bytes : ℕ) where
 
 -- a stripe that is not refused is well formed, and of the right length
 pub accepted : (s : Shape) (bytes : ℕ) → refusal (stripeFaults s bytes) ≡ 0 → WellFormed s × (bytes ≡ stripeLength s)
-accepted s bytes zero =
+accepted s bytes none =
     by-equal (s .code) 0 (λ e. stop 1 (code-zero s bytes e) (omega arith))
     (λ lo. by-less 3 (s .code) (λ l. stop 1 (code-large s bytes l) (omega arith))
     (λ hi. by-test (listed (s .p))
@@ -83,4 +85,79 @@ accepted s bytes zero =
     (λ e. stop 2 (prime-other s bytes lo hi e) (omega arith))))
   where
     stop : {A : Type 0} (n : ℕ) → n ≡ refusal (stripeFaults s bytes) → 0 < n → A
-    stop n e l = absurd (let same : n ≡ 0 = e ∙ zero in omega arith)
+    stop n e l = absurd (let same : n ≡ 0 = e ∙ none in omega arith)
+
+-- ---- a small write: its own tests come after those of the stripe
+
+orElse : ℕ → ℕ → ℕ
+orElse zero x = x
+orElse (suc n) x = suc n
+
+write-chain : (a b c d f g h : Bool)
+    → refusal (record { number = 6; applies = f } ∷ record { number = 7; applies = g } ∷ record { number = 8; applies = h }
+    ∷ record { number = 1; applies = a } ∷ record { number = 2; applies = b } ∷ record { number = 4; applies = c } ∷ record { number = 5; applies = d } ∷ [])
+    ≡ orElse (cond a 1 (cond b 2 (cond c 4 (cond d 5 0)))) (cond f 6 (cond g 7 (cond h 8 0)))
+unfolding refusal firstOf order applies orElse
+write-chain true b c d f g h = refl
+write-chain false true c d f g h = refl
+write-chain false false true d f g h = refl
+write-chain false false false true f g h = refl
+write-chain false false false false true g h = refl
+write-chain false false false false false true h = refl
+write-chain false false false false false false true = refl
+write-chain false false false false false false false = refl
+
+module _ (s : Shape) (bytes row column new : ℕ) where
+  write-ordered : refusal (writeFaults s bytes row column new)
+      ≡ orElse (refusal (stripeFaults s bytes)) (cond (outside s row column) 6 (cond (isParity s (cellNumber s row column)) 7 (cond (not (eqb new (s .cell))) 8 0)))
+  unfolding writeFaults stripeFaults
+  write-ordered =
+      write-chain (badCode (s .code)) (not (listed (s .p))) (badCell (s .cell)) (not (eqb bytes (stripeLength s))) (outside s row column) (isParity s (cellNumber s row column)) (not (eqb new (s .cell)))
+      ∙ ap (λ (x : ℕ). orElse x (cond (outside s row column) 6 (cond (isParity s (cellNumber s row column)) 7 (cond (not (eqb new (s .cell))) 8 0)))) (sym (ordered s bytes))
+
+  pub stripe-first : (r : ℕ) → r ≡ refusal (stripeFaults s bytes) → r ≢ 0 → r ≡ refusal (writeFaults s bytes row column new)
+  unfolding orElse
+  stripe-first r e n = sym (write-ordered ∙ ap (λ (x : ℕ). orElse x (cond (outside s row column) 6 (cond (isParity s (cellNumber s row column)) 7 (cond (not (eqb new (s .cell))) 8 0)))) (sym e) ∙ some-first r n (cond (outside s row column) 6 (cond (isParity s (cellNumber s row column)) 7 (cond (not (eqb new (s .cell))) 8 0))))
+    where
+      some-first : (k : ℕ) → k ≢ 0 → (x : ℕ) → orElse k x ≡ k
+      some-first zero n′ x = absurd (n′ refl)
+      some-first (suc k) n′ x = refl
+
+  module _ (right : refusal (stripeFaults s bytes) ≡ 0) where
+    pub write-tests : refusal (writeFaults s bytes row column new) ≡ cond (outside s row column) 6 (cond (isParity s (cellNumber s row column)) 7 (cond (not (eqb new (s .cell))) 8 0))
+    unfolding orElse
+    write-tests = write-ordered ∙ ap (λ (x : ℕ). orElse x (cond (outside s row column) 6 (cond (isParity s (cellNumber s row column)) 7 (cond (not (eqb new (s .cell))) 8 0)))) right
+
+    pub row-outside : rows s ≤ row → 6 ≡ refusal (writeFaults s bytes row column new)
+    row-outside l = rw (write-tests, le-ltb row (rows s) l) refl
+
+    pub column-outside : row < rows s → columns s ≤ column → 6 ≡ refusal (writeFaults s bytes row column new)
+    column-outside lr l = rw (write-tests, lt-ltb row (rows s) lr, le-ltb column (columns s) l) refl
+
+    module _ (lr : row < rows s) (lc : column < columns s) where
+      pub to-parity : isParity s (cellNumber s row column) ≡ true → 7 ≡ refusal (writeFaults s bytes row column new)
+      to-parity p = rw (write-tests, lt-ltb row (rows s) lr, lt-ltb column (columns s) lc, p) refl
+
+      module _ (plain : isParity s (cellNumber s row column) ≡ false) where
+        pub new-other : new ≢ s .cell → 8 ≡ refusal (writeFaults s bytes row column new)
+        new-other n = rw (write-tests, lt-ltb row (rows s) lr, lt-ltb column (columns s) lc, plain, ne-eqb new (s .cell) n) refl
+
+        pub write-right : new ≡ s .cell → 0 ≡ refusal (writeFaults s bytes row column new)
+        write-right e = rw (write-tests, lt-ltb row (rows s) lr, lt-ltb column (columns s) lc, plain, eq-eqb new (s .cell) e) refl
+
+-- a small write that is not refused is right
+pub write-accepted : (s : Shape) (bytes row column new : ℕ) → refusal (writeFaults s bytes row column new) ≡ 0 → WriteRight s bytes row column new
+write-accepted s bytes row column new none =
+    by-equal (refusal (stripeFaults s bytes)) 0
+    (λ right. by-less row (rows s)
+    (λ lr. by-less column (columns s)
+    (λ lc. by-test (isParity s (cellNumber s row column)) (λ p. stop 7 (to-parity s bytes row column new right lr lc p) (omega arith))
+    (λ plain. by-equal new (s .cell)
+    (λ e. let formed = accepted s bytes right in record { formed = formed .0; long = formed .1; cell = record { low = lr; right = lc; plain = plain }; whole = e })
+    (λ n. stop 8 (new-other s bytes row column new right lr lc plain n) (omega arith))))
+    (λ l. stop 6 (column-outside s bytes row column new right lr l) (omega arith)))
+    (λ l. stop 6 (row-outside s bytes row column new right l) (omega arith)))
+    (λ n. absurd (n (stripe-first s bytes row column new (refusal (stripeFaults s bytes)) refl n ∙ none)))
+  where
+    stop : {A : Type 0} (n : ℕ) → n ≡ refusal (writeFaults s bytes row column new) → 0 < n → A
+    stop n e l = absurd (let same : n ≡ 0 = e ∙ none in omega arith)

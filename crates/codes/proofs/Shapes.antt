@@ -1,19 +1,15 @@
 -- Laws of the shape: the ten primes and the three codes, one after the other; what is small.
 use mathlib.Core.Path.{_≡_, refl, sym, ap, ap₂, subst}
 use mathlib.Core.Logic.{_≢_, _⊎_, inl, inr, ⊎-elim}
-use mathlib.Core.Bool.{Bool, true, false, cond, _||_}
+use mathlib.Core.Bool.{true, false, cond}
 use Prim.Native.Nat.{ℕ, _+_, _-_, _*_, _≤_}
 use native.Mathlib.Nat.{mul-le-mul}
 use native.Mathlib.Omega.{arith}
 use lib.Dec.{eqb}
 use borrow.Author.Tests.{eqb-true}
-use Rattle.xor.proofs.Cases.{by-equal, not-passed}
+use Rattle.xor.proofs.Cases.{by-equal, either, not-passed}
 use Rattle.codes.specs.declared.Shape.{Shape}
 use Rattle.codes.specs.Shape.{listed, rows, columns, equations, cells, stripeLength, WellFormed}
-
-either : {A : Type 0} (a b : Bool) → (a || b) ≡ true → (a ≡ true → A) → (b ≡ true → A) → A
-either true b h f g = f refl
-either false b h f g = g h
 
 -- what holds of each of the ten primes holds of a listed number
 pub each-prime : (P : ℕ → Type 0) → P 3 → P 5 → P 7 → P 11 → P 13 → P 17 → P 19 → P 23 → P 29 → P 31 → (p : ℕ) → listed p ≡ true → P p
@@ -64,6 +60,10 @@ each-code P x1 x2 x3 code lo hi =
   where
     rest : code ≢ 1 → code ≢ 2 → 3 ≡ code
     rest n1 n2 = omega arith
+
+-- what is neither RDP nor X-Code is H-Code
+pub hcode-left : (s : Shape) → WellFormed s → s .code ≢ 1 → s .code ≢ 3 → s .code ≡ 2
+hcode-left s w n1 n3 = omega (arith, w .codeLow, w .codeHigh)
 
 -- ---- rows, columns and equations, as the code works them out
 

@@ -3,3 +3,4 @@ pub mod Equations
 pub mod Encoded
 pub mod Refusals
 pub mod Lines
+pub mod Depends

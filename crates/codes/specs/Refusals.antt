@@ -2,9 +2,10 @@
 use mathlib.Core.List.{List, [], _∷_}
 use mathlib.Core.Bool.{Bool, false, cond, not, _&&_, _||_}
 use Prim.Native.Nat.{ℕ}
-use lib.Dec.{eqb, leb}
+use lib.Dec.{eqb, leb, ltb}
 use Rattle.codes.specs.declared.Shape.{Shape}
-use Rattle.codes.specs.Shape.{listed, stripeLength}
+use Rattle.codes.specs.Shape.{listed, rows, columns, cellNumber, stripeLength}
+use Rattle.codes.specs.Encoded.{isParity}
 
 -- a refusal's number, and whether it applies
 pub record Fault : Type 0 where
@@ -29,6 +30,10 @@ firstOf (n ∷ numbers) faults = cond (applies faults n) n (firstOf numbers faul
 unfoldable pub refusal : List Fault → ℕ
 refusal faults = firstOf order faults
 
+-- whether a row or a column is outside the stripe
+abbrev pub outside : Shape → ℕ → ℕ → Bool
+outside s row column = not (ltb row (rows s) && ltb column (columns s))
+
 -- the refusals of every call on a lent stripe of so many bytes
 unfoldable pub stripeFaults : Shape → ℕ → List Fault
 stripeFaults s bytes =
@@ -37,3 +42,11 @@ stripeFaults s bytes =
     ∷ record { number = 4; applies = not (leb 1 (s .cell) && leb (s .cell) 4096) }
     ∷ record { number = 5; applies = not (eqb bytes (stripeLength s)) }
     ∷ []
+
+-- the refusals of a small write of so many new bytes to a row and a column, besides those of the stripe
+unfoldable pub writeFaults : Shape → ℕ → ℕ → ℕ → ℕ → List Fault
+writeFaults s bytes row column new =
+    record { number = 6; applies = outside s row column }
+    ∷ record { number = 7; applies = isParity s (cellNumber s row column) }
+    ∷ record { number = 8; applies = not (eqb new (s .cell)) }
+    ∷ stripeFaults s bytes

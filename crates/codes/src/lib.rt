@@ -1,10 +1,13 @@
 // The shape of a stripe, the published equations of RDP, H-Code and X-Code, and the refusals that every call on a stripe shares.
 ghost use mathlib.Core.Path.{_≡_};
+ghost use mathlib.Core.Bool.{false};
 ghost use Prim.Native.Nat.{_+_, _*_, _%_, _≤_, _<_};
 ghost use lib.ListN.{length};
-ghost use Rattle.codes.specs.Shape.{listed, rows, columns, equations, stripeLength, WellFormed};
-ghost use Rattle.codes.specs.Refusals.{refusal, stripeFaults};
+ghost use Rattle.codes.specs.Shape.{listed, rows, columns, equations, cellNumber, stripeLength, WellFormed};
+ghost use Rattle.codes.specs.Encoded.{parityCell, isParity};
+ghost use Rattle.codes.specs.Refusals.{refusal, stripeFaults, writeFaults};
 ghost use Rattle.codes.specs.Lines.{Lies, Walks, Placed, Found};
+ghost use Rattle.codes.specs.Depends.{DataCell, DependOn};
 
 // What describes a stripe: the code (1 RDP, 2 H-Code, 3 X-Code), the prime, and the bytes in a cell. Any numbers may stand here.
 #[repr(C)]
@@ -29,6 +32,14 @@ struct Line {
 pub struct Sources {
     pub to: usize,
     pub count: usize,
+}
+
+// The numbers of the equations whose parity cells depend on a data cell: the first two sum the cell itself, and the third sums
+// the parity cell of the first, as RDP's diagonals do. One that isn't there has the number past the last equation's.
+pub struct Dependents {
+    pub first: usize,
+    pub second: usize,
+    pub third: usize,
 }
 
 // Whether p is one of the ten primes.
@@ -248,4 +259,116 @@ pub fn sources_of(shape: Shape, q: usize, places: &mut [usize; 32]) -> Sources
     let count = l.count;
     place_cells(shape, l, places);
     Sources { to, count }
+}
+
+// Where in the stripe's bytes the parity cell of equation q starts.
+pub fn parity_place(shape: Shape, q: usize) -> usize
+    requires { ⌜ WellFormed shape × (q < equations shape) ⌝ }
+    ensures { λ r. ⌜ r ≡ parityCell shape q * shape .cell ⌝ }
+{
+    line_of(shape, q).parity * shape.cell
+}
+
+// Where in the stripe's bytes the cell in a row and a column starts.
+pub fn cell_place(shape: Shape, row: usize, column: usize) -> usize
+    requires { ⌜ WellFormed shape × (row < rows shape) × (column < columns shape) ⌝ }
+    ensures { λ r. ⌜ r ≡ cellNumber shape row column * shape .cell ⌝ }
+{
+    (column * row_count(shape) + row) * shape.cell
+}
+
+// The refusal of a small write: the lowest number that applies, or 0.
+pub fn write_refusal(shape: Shape, bytes: usize, row: usize, column: usize, new: usize) -> usize
+    ensures { λ r. ⌜ r ≡ refusal (writeFaults shape bytes row column new) ⌝ }
+{
+    let refusal = stripe_refusal(shape, bytes);
+    if refusal != 0 {
+        return refusal;
+    }
+    if row_count(shape) <= row {
+        return 6;
+    }
+    if column_count(shape) <= column {
+        return 6;
+    }
+    if is_parity(shape, row, column) {
+        return 7;
+    }
+    if new != shape.cell {
+        return 8;
+    }
+    0
+}
+
+// Whether the cell in a row and a column is a parity cell.
+pub fn is_parity(shape: Shape, row: usize, column: usize) -> bool
+    requires { ⌜ WellFormed shape × (row < rows shape) × (column < columns shape) ⌝ }
+    ensures { λ r. ⌜ r ≡ isParity shape (cellNumber shape row column) ⌝ }
+{
+    let p = shape.p;
+    if shape.code == 1 {
+        return p - 1 <= column;
+    }
+    if shape.code == 3 {
+        return p - 2 <= row;
+    }
+    if column == p {
+        return true;
+    }
+    column == row + 1
+}
+
+// The equations whose parity cells depend on a data cell of RDP: its row, its diagonal, and the diagonal of its row's parity cell.
+fn rdp_dependents(shape: Shape, row: usize, column: usize) -> Dependents
+    requires { ⌜ WellFormed shape × (shape .code ≡ 1) × DataCell shape row column ⌝ }
+    ensures { λ r. ⌜ DependOn shape (cellNumber shape row column) r ⌝ }
+{
+    let p = shape.p;
+    let n = p - 1;
+    Dependents {
+        first: row,
+        second: n + turned(row, column, p),
+        third: n + turned(row, n, p),
+    }
+}
+
+// The same of H-Code: the cell's row and its anti-diagonal.
+fn hcode_dependents(shape: Shape, row: usize, column: usize) -> Dependents
+    requires { ⌜ WellFormed shape × (shape .code ≡ 2) × DataCell shape row column ⌝ }
+    ensures { λ r. ⌜ DependOn shape (cellNumber shape row column) r ⌝ }
+{
+    let p = shape.p;
+    let n = p - 1;
+    Dependents {
+        first: row,
+        second: n + turned(column, p - 2 - row, p),
+        third: 2 * n,
+    }
+}
+
+// The same of X-Code: the cell's lines in both families.
+fn xcode_dependents(shape: Shape, row: usize, column: usize) -> Dependents
+    requires { ⌜ WellFormed shape × (shape .code ≡ 3) × DataCell shape row column ⌝ }
+    ensures { λ r. ⌜ DependOn shape (cellNumber shape row column) r ⌝ }
+{
+    let p = shape.p;
+    Dependents {
+        first: turned(column, p - 2 - row, p),
+        second: p + turned(column, row + 2, p),
+        third: 2 * p,
+    }
+}
+
+// The equations whose parity cells depend on the data cell in a row and a column.
+pub fn dependents_of(shape: Shape, row: usize, column: usize) -> Dependents
+    requires { ⌜ WellFormed shape × DataCell shape row column ⌝ }
+    ensures { λ r. ⌜ DependOn shape (cellNumber shape row column) r ⌝ }
+{
+    if shape.code == 1 {
+        return rdp_dependents(shape, row, column);
+    }
+    if shape.code == 2 {
+        return hcode_dependents(shape, row, column);
+    }
+    xcode_dependents(shape, row, column)
 }

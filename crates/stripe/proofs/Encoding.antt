@@ -17,6 +17,7 @@ use Rattle.codes.specs.Shape.{cells, equations, stripeLength, WellFormed}
 use Rattle.codes.specs.Encoded.{parityCell, sumsCell, sumOver, byteAt, isParity, Encoded}
 use Rattle.codes.proofs.Ordered.{ordered}
 use Rattle.codes.proofs.Parity.{sum-same, same-bytes}
+use Rattle.codes.proofs.Solutions.{Solves}
 use Rattle.stripe.specs.Encode.{EncodingOf, ParitySet}
 
 -- f after the parity cells of the first q equations are set, one after the other
@@ -87,42 +88,42 @@ settled-all s w q old new h e = record {
 
 -- ---- there is only one
 
-module _ (s : Shape) (w : WellFormed s) (a b : List ℕ) (ha : Encoded s a) (hb : Encoded s b)
-    (data′ : (c : ℕ) → c < cells s → isParity s c ≡ false → (t : ℕ) → t < s .cell → byteAt s a c t ≡ byteAt s b c t) where
+module _ (s : Shape) (w : WellFormed s) (f g : ℕ → ℕ) (hf : Solves s f) (hg : Solves s g) (data′ : (c : ℕ) → c < cells s → isParity s c ≡ false → f c ≡ g c) where
   -- a cell that equation q sums is data, or the parity cell of an earlier equation
-  parity-agrees : (q : ℕ) → q ≤ equations s → (r : ℕ) → r < q → (t : ℕ) → t < s .cell → byteAt s a (parityCell s r) t ≡ byteAt s b (parityCell s r) t
+  parity-agrees : (q : ℕ) → q ≤ equations s → (r : ℕ) → r < q → f (parityCell s r) ≡ g (parityCell s r)
   unfolding isParity
-  parity-agrees zero lq r l t lt = absurd (omega arith)
-  parity-agrees (suc q) lq r l t lt =
+  parity-agrees zero lq r l = absurd (omega arith)
+  parity-agrees (suc q) lq r l =
       by-equal r q
-      (λ e. ap (λ (k : ℕ). byteAt s a (parityCell s k) t) e ∙ ha .holds q lq t lt
-      ∙ sum-same s q (λ c. byteAt s a c t) (λ c. byteAt s b c t) (summed (parity-agrees q (omega arith)))
-      ∙ sym (hb .holds q lq t lt) ∙ ap (λ (k : ℕ). byteAt s b (parityCell s k) t) (sym e))
-      (λ n. parity-agrees q (omega arith) r (omega arith) t lt)
+      (λ e. ap (λ (k : ℕ). f (parityCell s k)) e ∙ hf q lq ∙ sum-same s q f g (summed (parity-agrees q (omega arith))) ∙ sym (hg q lq) ∙ ap (λ (k : ℕ). g (parityCell s k)) (sym e))
+      (λ n. parity-agrees q (omega arith) r (omega arith))
     where
-      summed : ((k : ℕ) → k < q → (u : ℕ) → u < s .cell → byteAt s a (parityCell s k) u ≡ byteAt s b (parityCell s k) u)
-          → (c : ℕ) → c < cells s → sumsCell s q c ≡ true → byteAt s a c t ≡ byteAt s b c t
+      summed : ((k : ℕ) → k < q → f (parityCell s k) ≡ g (parityCell s k)) → (c : ℕ) → c < cells s → sumsCell s q c ≡ true → f c ≡ g c
       summed earlier c lc p =
           by-test (isParity s c)
           (λ par.
           let found = any-some (equations s) (λ k. eqb (parityCell s k) c) par in
           let at : parityCell s (found .0) ≡ c = eqb-true (parityCell s (found .0)) c (found .2) in
-          by-less (found .0) q
-          (λ lk. ap (λ (k : ℕ). byteAt s a k t) (sym at) ∙ earlier (found .0) lk t lt ∙ ap (λ (k : ℕ). byteAt s b k t) at)
-          (λ lk. clash p (ap (sumsCell s q) (sym at) ∙ ordered s w .unsummed q (found .0) lk (found .1))))
-          (λ par. data′ c lc par t lt)
+          by-less (found .0) q (λ lk. ap f (sym at) ∙ earlier (found .0) lk ∙ ap g at) (λ lk. clash p (ap (sumsCell s q) (sym at) ∙ ordered s w .unsummed q (found .0) lk (found .1))))
+          (data′ c lc)
 
-  -- encoded stripes with the same data are equal
-  pub same-data : length a ≡ stripeLength s → length b ≡ stripeLength s → a ≡ b
+  -- solutions with the same data are equal
+  pub one-solution : (c : ℕ) → c < cells s → f c ≡ g c
   unfolding isParity
-  same-data la lb =
-      same-bytes s w a b la lb
-      (λ c lc t lt. by-test (isParity s c)
+  one-solution c lc =
+      by-test (isParity s c)
       (λ par.
       let found = any-some (equations s) (λ k. eqb (parityCell s k) c) par in
       let at : parityCell s (found .0) ≡ c = eqb-true (parityCell s (found .0)) c (found .2) in
-      ap (λ (k : ℕ). byteAt s a k t) (sym at) ∙ parity-agrees (equations s) (le-refl (equations s)) (found .0) (found .1) t lt ∙ ap (λ (k : ℕ). byteAt s b k t) at)
-      (λ par. data′ c lc par t lt))
+      ap f (sym at) ∙ parity-agrees (equations s) (le-refl (equations s)) (found .0) (found .1) ∙ ap g at)
+      (data′ c lc)
+
+-- so encoded stripes with the same data are
+pub same-data : (s : Shape) (w : WellFormed s) (a b : List ℕ) → Encoded s a → Encoded s b → ((c : ℕ) → c < cells s → isParity s c ≡ false → (t : ℕ) → t < s .cell → byteAt s a c t ≡ byteAt s b c t)
+    → length a ≡ stripeLength s → length b ≡ stripeLength s → a ≡ b
+same-data s w a b ha hb data′ la lb =
+    same-bytes s w a b la lb
+    (λ c lc t lt. one-solution s w (λ k. byteAt s a k t) (λ k. byteAt s b k t) (λ q l. ha .holds q l t lt) (λ q l. hb .holds q l t lt) (λ k lk p. data′ k lk p t lt) c lc)
 
 pub one-encoding : (s : Shape) (w : WellFormed s) (old a b : List ℕ) → length old ≡ stripeLength s → EncodingOf s old a → EncodingOf s old b → a ≡ b
 one-encoding s w old a b long ha hb =

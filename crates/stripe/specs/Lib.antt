@@ -1,2 +1,4 @@
 pub mod Encode
 pub mod Broken
+pub mod Write
+pub mod Parts

@@ -1,7 +1,7 @@
 -- Going by cases: on a test, on whether two numbers are equal, on the numbers below a bound.
 use mathlib.Core.Path.{_≡_, refl, sym, _∙_, subst}
 use mathlib.Core.Logic.{_≢_}
-use mathlib.Core.Bool.{Bool, true, false, _&&_, true≢false}
+use mathlib.Core.Bool.{Bool, true, false, _&&_, _||_, true≢false}
 use Prim.Native.Nat.{ℕ, _≤_, _<_}
 use native.Mathlib.Decide.{ℕ-discrete, decLt}
 use native.Mathlib.Omega.{arith}
@@ -43,6 +43,22 @@ and-right false b h = clash h refl
 pub and-both : {a b : Bool} → a ≡ true → b ≡ true → (a && b) ≡ true
 and-both {b = b} p q = subst (λ (x : Bool). (x && b) ≡ true) (sym p) q
 
+-- one of two tests of a disjunction
+pub either : {A : Type 0} (a b : Bool) → (a || b) ≡ true → (a ≡ true → A) → (b ≡ true → A) → A
+either true b h f g = f refl
+either false b h f g = g h
+
+pub or-left : {a : Bool} (b : Bool) → a ≡ true → (a || b) ≡ true
+or-left b p = subst (λ (x : Bool). (x || b) ≡ true) (sym p) refl
+
+pub or-right : (a : Bool) {b : Bool} → b ≡ true → (a || b) ≡ true
+or-right true p = refl
+or-right false p = p
+
 -- a test that does not pass fails
 pub not-passed : {b : Bool} → (b ≡ true → ⊥) → b ≡ false
 not-passed {b} h = by-test b (λ p. absurd (h p)) (λ p. p)
+
+-- tests that pass together are equal
+pub same-test : {a b : Bool} → (a ≡ true → b ≡ true) → (b ≡ true → a ≡ true) → a ≡ b
+same-test {a} there back = by-test a (λ p. p ∙ sym (there p)) (λ p. p ∙ sym (not-passed (λ q. clash (back q) p)))

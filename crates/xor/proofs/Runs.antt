@@ -12,7 +12,7 @@ use lib.Bits.{bitXor, bitOr}
 use lib.Dec.{eqb}
 use borrow.Author.Tests.{eqb-true, eqb-false}
 use Rattle.xor.specs.Xor.{_⊕_, xors}
-use Rattle.xor.specs.Runs.{sumAt, Inside, Apart, Added, Put, Says}
+use Rattle.xor.specs.Runs.{sumAt, changedBy, Inside, Apart, Beside, Added, Put, Says}
 use Rattle.xor.proofs.Cases.{by-equal, by-less, clash}
 use Rattle.xor.proofs.Algebra.{⊕-is, zero-⊕, ⊕-zero, ⊕-assoc, ⊕-equal, equal-⊕, or-none-left, or-none-right}
 use Rattle.xor.proofs.Sums.{xors-more, xors-none, xors-same}
@@ -92,31 +92,39 @@ sum-apart s s′ places to d n t f h a ld lt =
     xors-same (length places) (λ k. getD s′ (getD places k 0 + t) 0) (λ k. getD s (getD places k 0 + t) 0)
     (λ k l. h .outer (getD places k 0 + t) (⊎-elim (λ w. inl (omega arith)) (λ w. inr (omega arith)) (a .side k l)))
 
--- a block stored at `at`, where the run was done up to `done` or less far
+-- bytes stored from `at` on, where the run was stored up to `done`
+pub put-over : (s₀ s s′ : List ℕ) (to at m done : ℕ) (f g : ℕ → ℕ) → Put s₀ to done f s → Put s (to + at) m g s′ → ((t : ℕ) → t < m → g t ≡ f (at + t))
+    → at ≤ done → done ≤ at + m → Put s₀ to (at + m) f s′
+put-over s₀ s s′ to at m done f g h b same lo hi = record {
+  long = b .long ∙ h .long;
+  inner = λ t l. by-less t at (λ w. b .outer (to + t) (inl (omega arith)) ∙ h .inner t (omega arith)) (λ w. stored t w l);
+  outer = λ i side. b .outer i (⊎-elim (λ w. inl (omega arith)) (λ w. inr (omega arith)) side) ∙ h .outer i (⊎-elim (λ w. inl w) (λ w. inr (omega arith)) side);
+}
+  where
+    stored : (t : ℕ) → at ≤ t → t < at + m → getD s′ (to + t) 0 ≡ f t
+    stored t lo′ hi′ =
+        let place : to + at + (t - at) ≡ to + t = omega arith in
+        let whole : at + (t - at) ≡ t = omega arith in
+        ap (λ (i : ℕ). getD s′ i 0) (sym place) ∙ b .inner (t - at) (omega arith) ∙ same (t - at) (omega arith) ∙ ap f whole
+
+-- a block of a sum: the runs are as they were
 pub put-block : (s₀ s s′ places : List ℕ) (to n at m done : ℕ)
     → Put s₀ to done (sumAt s₀ places) s → Put s (to + at) m (λ t. sumAt s places (at + t)) s′
     → Apart places to n → at ≤ done → done ≤ at + m → at + m ≤ n → Put s₀ to (at + m) (sumAt s₀ places) s′
-put-block s₀ s s′ places to n at m done h b a lo hi end = record {
-  long = b .long ∙ h .long;
-  inner = λ t l. by-less t at
-      (λ w. b .outer (to + t) (inl (omega arith)) ∙ h .inner t (omega arith))
-      (λ w. sum-at t w l);
-  outer = λ i side. b .outer i (out i side) ∙ h .outer i (out′ i side);
-}
-  where
-    -- a byte of the block: the run it sums is as it was
-    sum-at : (t : ℕ) → at ≤ t → t < at + m → getD s′ (to + t) 0 ≡ sumAt s₀ places t
-    sum-at t lo′ hi′ =
-        let same : at + (t - at) ≡ t = omega arith in
-        let place : to + at + (t - at) ≡ to + t = omega arith in
-        ap (λ (i : ℕ). getD s′ i 0) (sym place) ∙ b .inner (t - at) (omega arith) ∙ ap (sumAt s places) same
-        ∙ sum-apart s₀ s places to done n t (sumAt s₀ places) h a (omega arith) (omega arith)
+put-block s₀ s s′ places to n at m done h b a lo hi end =
+    put-over s₀ s s′ to at m done (sumAt s₀ places) (λ t. sumAt s places (at + t)) h b
+    (λ t l. sum-apart s₀ s places to done n (at + t) (sumAt s₀ places) h a (omega arith) (omega arith)) lo hi
 
-    out : (i : ℕ) → (i < to) ⊎ (to + (at + m) ≤ i) → (i < to + at) ⊎ (to + at + m ≤ i)
-    out i side = ⊎-elim (λ w. inl (omega arith)) (λ w. inr (omega arith)) side
-
-    out′ : (i : ℕ) → (i < to) ⊎ (to + (at + m) ≤ i) → (i < to) ⊎ (to + done ≤ i)
-    out′ i side = ⊎-elim (λ w. inl w) (λ w. inr (omega arith)) side
+-- a block of a difference: the bytes that it is made of are as they were
+pub put-difference : (s₀ s s′ new : List ℕ) (to from n at m : ℕ)
+    → Put s₀ to at (changedBy s₀ to from new) s → Put s (to + at) m (λ t. changedBy s to from new (at + t)) s′
+    → Beside to from n → at + m ≤ n → Put s₀ to (at + m) (changedBy s₀ to from new) s′
+unfolding changedBy
+put-difference s₀ s s′ new to from n at m h b side end =
+    put-over s₀ s s′ to at m at (changedBy s₀ to from new) (λ t. changedBy s to from new (at + t)) h b
+    (λ t l. ap₂ (λ (x y : ℕ). x ⊕ (y ⊕ getD new (at + t) 0)) (h .outer (to + (at + t)) (inr (omega arith)))
+    (h .outer (from + (at + t)) (⊎-elim (λ w. inl (omega arith)) (λ w. inr (omega arith)) side)))
+    (omega arith) (omega arith)
 
 -- a block whose bytes are those of another
 pub put-same : (s s′ : List ℕ) (to n : ℕ) (f g : ℕ → ℕ) → Put s to n f s′ → ((t : ℕ) → t < n → f t ≡ g t) → Put s to n g s′
@@ -125,6 +133,16 @@ put-same s s′ to n f g h e = record { long = h .long; inner = λ t l. h .inner
 -- a block that is all zeros before anything is XORed in
 pub from-zero : (r : List ℕ) (n : ℕ) (f : ℕ → ℕ) → n ≤ 128 → Added (replicate 128 0) n f r → (t : ℕ) → t < n → getD r t 0 ≡ f t
 from-zero r n f ln h t l = h .inner t l ∙ ap (λ (x : ℕ). x ⊕ f t) (getD-replicate 128 t 0 0 (omega arith)) ∙ zero-⊕ (f t)
+
+-- three additions from zero make a byte of a difference
+pub difference-block : (s new r₁ r₂ r₃ : List ℕ) (to from at n : ℕ) → n ≤ 128 → Added (replicate 128 0) n (λ i. getD s (to + at + i) 0) r₁
+    → Added r₁ n (λ i. getD s (from + at + i) 0) r₂ → Added r₂ n (λ i. getD new (at + i) 0) r₃ → (t : ℕ) → t < n → getD r₃ t 0 ≡ changedBy s to from new (at + t)
+unfolding changedBy
+difference-block s new r₁ r₂ r₃ to from at n ln h₁ h₂ h₃ t l =
+    h₃ .inner t l
+    ∙ ap (λ (x : ℕ). x ⊕ getD new (at + t) 0) (h₂ .inner t l ∙ ap (λ (x : ℕ). x ⊕ getD s (from + at + t) 0) (from-zero r₁ n (λ i. getD s (to + at + i) 0) ln h₁ t l))
+    ∙ ⊕-assoc (getD s (to + at + t) 0) (getD s (from + at + t) 0) (getD new (at + t) 0)
+    ∙ ap₂ (λ (i k : ℕ). getD s i 0 ⊕ (getD s k 0 ⊕ getD new (at + t) 0)) (add-assoc to at t) (add-assoc from at t)
 
 -- shorter runs are inside too
 pub shorter : (long long′ n m : ℕ) (places : List ℕ) → Inside long places n → long′ ≡ long → m ≤ n → Inside long′ places m

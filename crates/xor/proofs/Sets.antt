@@ -5,6 +5,8 @@ use Prim.Native.Nat.{ℕ, zero, suc, _+_, _≤_, _<_}
 use native.Mathlib.Nat.{add-zero}
 use native.Mathlib.Numerals.{add-one}
 use native.Mathlib.Omega.{arith}
+use lib.Dec.{eqb}
+use borrow.Author.Tests.{eq-eqb, ne-eqb}
 use Rattle.xor.specs.Sets.{any, count}
 use Rattle.xor.proofs.Cases.{by-test, by-equal, clash}
 
@@ -66,3 +68,28 @@ pub count-most : (n : ℕ) (test : ℕ → Bool) → count n test ≤ n
 unfolding count
 count-most zero test = omega arith
 count-most (suc n) test = by-test (test n) (λ p. rw p (omega (arith, count-most n test))) (λ p. rw p (omega (arith, count-most n test)))
+
+-- equal tests count the same
+pub count-same : (n : ℕ) (test other : ℕ → Bool) → ((k : ℕ) → k < n → test k ≡ other k) → count n test ≡ count n other
+unfolding count
+count-same zero test other h = refl
+count-same (suc n) test other h = ap₂ (λ (x : ℕ) (b : Bool). x + cond b 1 0) (count-same n test other (λ k l. h k (omega arith))) (h n (omega arith))
+
+-- no number passes
+pub count-never : (n : ℕ) (test : ℕ → Bool) → ((k : ℕ) → k < n → test k ≡ false) → count n test ≡ 0
+unfolding count
+count-never zero test h = refl
+count-never (suc n) test h = ap₂ (λ (x : ℕ) (b : Bool). x + cond b 1 0) (count-never n test (λ k l. h k (omega arith))) (h n (omega arith))
+
+-- one more member
+pub count-insert : (n : ℕ) (test : ℕ → Bool) (a : ℕ) → a < n → test a ≡ false → count n (λ k. eqb k a || test k) ≡ 1 + count n test
+unfolding count
+count-insert zero test a l h = absurd (omega arith)
+count-insert (suc n) test a l h =
+    by-equal a n
+    (λ e. let here : eqb n a ≡ true = eq-eqb n a (sym e) in
+    let gone : test n ≡ false = ap test (sym e) ∙ h in
+    let below : count n (λ k. eqb k a || test k) ≡ count n test = count-same n (λ k. eqb k a || test k) test (λ k lk. ap (λ (b : Bool). b || test k) (ne-eqb k a (λ z. omega arith))) in
+    rw (here, gone) (omega (arith, below)))
+    (λ e. let other : eqb n a ≡ false = ne-eqb n a (λ z. e (sym z)) in
+    rw other (omega (arith, count-insert n test a (omega arith) h)))

@@ -11,6 +11,10 @@ use Rattle.xor.specs.Xor.{_⊕_, xors}
 unfoldable pub sumAt : List ℕ → List ℕ → ℕ → ℕ
 sumAt s places t = xors (length places) (λ k. getD s (getD places k 0 + t) 0)
 
+-- byte t of the run at `to`, with the difference of the run at `from` and of the new bytes XORed in
+unfoldable pub changedBy : List ℕ → ℕ → ℕ → List ℕ → ℕ → ℕ
+changedBy s to from new t = getD s (to + t) 0 ⊕ (getD s (from + t) 0 ⊕ getD new t 0)
+
 -- every run of n bytes lies inside
 pub record Inside (long : ℕ) (places : List ℕ) (n : ℕ) : Type 0 where
   pub ends : (k : ℕ) → k < length places → getD places k 0 + n ≤ long
@@ -18,6 +22,10 @@ pub record Inside (long : ℕ) (places : List ℕ) (n : ℕ) : Type 0 where
 -- none of the runs of n bytes meets the run at `to`
 pub record Apart (places : List ℕ) (to n : ℕ) : Type 0 where
   pub side : (k : ℕ) → k < length places → (getD places k 0 + n ≤ to) ⊎ (to + n ≤ getD places k 0)
+
+-- two runs of n bytes do not meet
+abbrev pub Beside : ℕ → ℕ → ℕ → Type 0
+Beside to from n = (from + n ≤ to) ⊎ (to + n ≤ from)
 
 -- r is the block `sum` with f i XORed into each byte i below n
 pub record Added (sum : List ℕ) (n : ℕ) (f : ℕ → ℕ) (r : List ℕ) : Type 0 where

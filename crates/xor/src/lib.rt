@@ -4,7 +4,7 @@ ghost use mathlib.Core.Path.{_≡_};
 ghost use mathlib.Core.Bool.{true, false};
 ghost use Prim.Native.Nat.{ℕ, _+_, _≤_, _<_};
 ghost use lib.ListN.{length, getD};
-ghost use Rattle.xor.specs.Runs.{sumAt, Inside, Apart, Added, Put, Says};
+ghost use Rattle.xor.specs.Runs.{sumAt, changedBy, Inside, Apart, Beside, Added, Put, Says};
 
 // The block `sum` with n bytes of s, from `at` on, XORed in.
 fn add_bytes(sum: [u8; 128], s: &[u8], at: usize, n: usize) -> [u8; 128]
@@ -122,4 +122,41 @@ pub fn is_sum(s: &[u8], places: &[usize], to: usize, n: usize) -> bool
         done = at + 128;
     }
     true
+}
+
+// XORs into n bytes of the run at `to`, from `at` on, how those of the run at `from` differ from the new ones.
+fn add_block_difference(s: &mut [u8], to: usize, from: usize, new: &[u8], at: usize, n: usize)
+    requires { ⌜ (n ≤ 128) × (to + at + n ≤ length (now s)) × (from + at + n ≤ length (now s)) × (at + n ≤ length (now new)) ⌝ }
+    ensures { λ _. ⌜ Put (now (s .entry)) (to + at) n (λ t. changedBy (now (s .entry)) to from (now (new .entry)) (at + t)) (now (s .exit)) ⌝ }
+{
+    let parity = add_bytes([0u8; 128], s, to + at, n);
+    let with_old = add_bytes(parity, s, from + at, n);
+    let with_new = add_bytes(with_old, new, at, n);
+    put_bytes(s, to + at, with_new, n);
+}
+
+// XORs into the run at `to` how the run at `from`, which it does not meet, differs from the new bytes.
+pub fn add_difference(s: &mut [u8], to: usize, from: usize, new: &[u8])
+    requires { ⌜ (to + length (now new) ≤ length (now s)) × (from + length (now new) ≤ length (now s)) × Beside to from (length (now new)) ⌝ }
+    ensures { λ _. ⌜ Put (now (s .entry)) to (length (now (new .entry))) (changedBy (now (s .entry)) to from (now (new .entry))) (now (s .exit)) ⌝ }
+{
+    let n = new.len();
+    let mut done = 0;
+    while 128 <= n - done {
+        add_block_difference(s, to, from, new, done, 128);
+        done += 128;
+    }
+    add_block_difference(s, to, from, new, done, n - done);
+}
+
+// Stores new bytes in the run at `to`.
+pub fn put_run(s: &mut [u8], to: usize, new: &[u8])
+    requires { ⌜ to + length (now new) ≤ length (now s) ⌝ }
+    ensures { λ _. ⌜ Put (now (s .entry)) to (length (now (new .entry))) (λ t. getD (now (new .entry)) t 0) (now (s .exit)) ⌝ }
+{
+    let mut i = 0;
+    while i < new.len() {
+        s[to + i] = new[i];
+        i += 1;
+    }
 }

@@ -1,16 +1,24 @@
 -- The two cases of broken's answer, in two numbers.
-use mathlib.Core.Path.{_≡_, refl, sym, ap, _∙_}
+use mathlib.Core.Path.{_≡_, refl, sym, ap, _∙_, subst}
 use mathlib.Core.List.{List}
 use Prim.Native.Nat.{ℕ}
 use native.Mathlib.Omega.{arith}
+use lib.ListN.{length}
 use Rattle.xor.proofs.Cases.{by-equal}
 use Rattle.codes.specs.declared.Shape.{Shape}
+use Rattle.codes.specs.Shape.{cellNumber}
+use Rattle.codes.specs.Depends.{WriteRight}
+use Rattle.codes.proofs.Refused.{write-accepted}
 use Rattle.codes.specs.Encoded.{brokenEquations}
 use Rattle.stripe.specs.declared.BrokenCount.{BrokenCount}
 use Rattle.stripe.specs.declared.BrokenCount.the-variants.{Equations, Refused}
+use Rattle.stripe.specs.declared.WriteCount.{WriteCount}
+use Rattle.stripe.specs.declared.WriteCount.the-variants.{ParityCells, Refused as Refused′}
+use Rattle.stripe.specs.Write.{writeNumber, Depending, Writes}
+use Rattle.stripe.proofs.WriteFacts.{one-count, one-write}
 use Rattle.stripe.specs.Broken.{numberOf, Counts}
 use Rattle.zijraduf.specs.declared.Count.{Count}
-use Rattle.zijraduf.specs.Export.{CountsBroken}
+use Rattle.zijraduf.specs.Export.{CountsBroken, WritesCounted}
 
 module _ (s : Shape) (stripe : List ℕ) (answer : BrokenCount) (h : Counts s stripe answer) (n : ℕ) where
   pub from-count : answer ≡ Equations n → CountsBroken s stripe (record { refusal = 0; count = n })
@@ -39,3 +47,52 @@ exported-one s stripe a b ha hb = λ i. record { refusal = same i; count = count
 
     counts : a .count ≡ b .count
     counts = by-equal (a .refusal) 0 (λ z. ha .count z ∙ sym (hb .count (sym same ∙ z))) (λ n. ha .none n ∙ sym (hb .none (λ z. n (same ∙ z))))
+
+-- ---- a small write
+
+module _ (s : Shape) (row column : ℕ) (bytes old : List ℕ) (answer : WriteCount) (new : List ℕ) (h : Writes s row column bytes old answer new) (n : ℕ) where
+  pub from-written : answer ≡ ParityCells n → WritesCounted s row column bytes old (record { refusal = 0; count = n }) new
+  from-written e = record {
+    number = sym (ap writeNumber e) ∙ h .number;
+    refused = λ k. absurd (k refl);
+    count = λ z. let found = h .count (ap writeNumber e) in subst (Depending s (cellNumber s row column)) (same (found .cells) (found .says)) (found .depending);
+    none = λ k. absurd (k refl);
+    done = λ z. h .done (ap writeNumber e);
+  }
+    where
+      same : (m : ℕ) → answer ≡ ParityCells m → m ≡ n
+      same m f = cc
+
+  pub from-refused : answer ≡ Refused′ n → WritesCounted s row column bytes old (record { refusal = n; count = 0 }) new
+  from-refused e = record {
+    number = sym (ap writeNumber e) ∙ h .number;
+    refused = λ k. h .refused (λ z. k (sym (ap writeNumber e) ∙ z));
+    count = λ z. absurd (never (h .count (ap writeNumber e ∙ z) .cells) (h .count (ap writeNumber e ∙ z) .says));
+    none = λ k. refl;
+    done = λ z. absurd (never (h .count (ap writeNumber e ∙ z) .cells) (h .count (ap writeNumber e ∙ z) .says));
+  }
+    where
+      never : (m : ℕ) → answer ≡ ParityCells m → ⊥
+      never m f = let z : _≡_ {A = ℕ} 0 1 = cc in omega arith
+
+-- any two results that the exported small write may leave are equal
+pub exported-write-one : (s : Shape) (row column : ℕ) (bytes old : List ℕ) (a b : Count) (x y : List ℕ)
+    → WritesCounted s row column bytes old a x → WritesCounted s row column bytes old b y → (a ≡ b) × (x ≡ y)
+exported-write-one s row column bytes old a b x y ha hb = (
+  λ i. record { refusal = same i; count = counts i },
+  by-equal (a .refusal) 0
+      (λ z. let right = accepted-at z in one-write s (right .formed) (cellNumber s row column) old bytes x y (right .long) (ha .done z) (hb .done (sym same ∙ z)))
+      (λ n. ha .refused n ∙ sym (hb .refused (λ z. n (same ∙ z)))),
+)
+  where
+    same : a .refusal ≡ b .refusal
+    same = ha .number ∙ sym (hb .number)
+
+    accepted-at : a .refusal ≡ 0 → WriteRight s (length old) row column (length bytes)
+    accepted-at z = write-accepted s (length old) row column (length bytes) (sym (ha .number) ∙ z)
+
+    counts : a .count ≡ b .count
+    counts =
+        by-equal (a .refusal) 0
+        (λ z. one-count s (accepted-at z .formed) (cellNumber s row column) (a .count) (b .count) (ha .count z) (hb .count (sym same ∙ z)))
+        (λ n. ha .none n ∙ sym (hb .none (λ z. n (same ∙ z))))

@@ -4,13 +4,16 @@ use mathlib.Core.List.{List, [], _∷_}
 use Prim.Native.Nat.{ℕ}
 use lib.ListN.{length}
 use Rattle.codes.specs.declared.Shape.{Shape}
-use Rattle.codes.specs.Shape.{stripeLength, WellFormed}
+use Rattle.codes.specs.Shape.{cellNumber, stripeLength, WellFormed}
 use Rattle.codes.specs.Encoded.{Encoded, brokenEquations}
+use Rattle.stripe.specs.Write.{Written, Depending}
 
--- what a row claims of a stripe: that it is encoded, or that so many equations are broken
+-- what a row claims of a stripe: that it is encoded; that so many equations are broken; that a small write to a row and a column
+-- of some bytes leaves another stripe, and that so many parity cells depend on the position
 pub data Claim : Type 0 where
   encoded : Claim
   broken : ℕ → Claim
+  written : (row column : ℕ) (bytes new : List ℕ) (depending : ℕ) → Claim
 
 -- a row: the number behind P, a stripe, and what is claimed of it
 pub record Example : Type 0 where
@@ -29,6 +32,8 @@ table =
     record { number = 1; shape = small 1; claim = encoded; stripe = 0x01 ∷ 0x04 ∷ 0x02 ∷ 0x08 ∷ 0x03 ∷ 0x0C ∷ 0x0D ∷ 0x06 ∷ [] }
     ∷ record { number = 2; shape = small 2; claim = encoded; stripe = 0x01 ∷ 0x02 ∷ 0x0A ∷ 0x04 ∷ 0x08 ∷ 0x05 ∷ 0x09 ∷ 0x06 ∷ [] }
     ∷ record { number = 3; shape = small 3; claim = encoded; stripe = 0x01 ∷ 0x04 ∷ 0x02 ∷ 0x02 ∷ 0x01 ∷ 0x04 ∷ 0x04 ∷ 0x02 ∷ 0x01 ∷ [] }
+    ∷ record { number = 4; shape = small 1; claim = written 0 0 (0x05 ∷ []) (0x05 ∷ 0x04 ∷ 0x02 ∷ 0x08 ∷ 0x07 ∷ 0x0C ∷ 0x09 ∷ 0x06 ∷ []) 2; stripe = 0x01 ∷ 0x04 ∷ 0x02 ∷ 0x08 ∷ 0x03 ∷ 0x0C ∷ 0x0D ∷ 0x06 ∷ [] }
+    ∷ record { number = 5; shape = small 1; claim = written 1 0 (0x00 ∷ []) (0x01 ∷ 0x00 ∷ 0x02 ∷ 0x08 ∷ 0x03 ∷ 0x08 ∷ 0x09 ∷ 0x02 ∷ []) 3; stripe = 0x01 ∷ 0x04 ∷ 0x02 ∷ 0x08 ∷ 0x03 ∷ 0x0C ∷ 0x0D ∷ 0x06 ∷ [] }
     ∷ record { number = 10; shape = small 1; claim = broken 3; stripe = 0x00 ∷ 0x04 ∷ 0x02 ∷ 0x0A ∷ 0x03 ∷ 0x0C ∷ 0x0D ∷ 0x06 ∷ [] }
     ∷ []
 
@@ -36,6 +41,7 @@ table =
 abbrev pub Claims : Shape → List ℕ → Claim → Type 0
 Claims s stripe encoded = Encoded s stripe
 Claims s stripe (broken n) = brokenEquations s stripe ≡ n
+Claims s stripe (written row column bytes new n) = Written s (cellNumber s row column) stripe bytes new × Depending s (cellNumber s row column) n
 
 -- a row holds: its stripe is well formed, and what is claimed of it is so
 pub record Holds (e : Example) : Type 0 where

@@ -1,0 +1,113 @@
+-- Laws of the bits of a number: halving, the code's `^` and `&`, and its count of trailing zeros.
+use mathlib.Core.Path.{_≡_, refl, sym, ap, _∙_}
+use mathlib.Core.Logic.{_≢_}
+use mathlib.Core.Bool.{false, _&&_, xor}
+use Prim.Native.Nat.{ℕ, zero, suc, _-_, _/_, _%_, _^_, _<_}
+use native.Mathlib.Nat.{mod-lt, zero-lt-suc, pow-suc, div-one, mul-div-cancel, mul-mod-left, div-lt-iff-lt-mul}
+use native.Mathlib.Numerals.{one-add}
+use native.Mathlib.Omega.{arith}
+use lib.Arith.{lt-one}
+use lib.Bits.{bitXor, bitAnd, xor-shr, xor-mod, and-shr, and-mod}
+use lib.Count.{trailingZeros, under}
+use lib.Dec.{eqb, ltb, eqb·suc-suc, leb·suc-suc}
+use lib.Pow.{pow-pos, shr-shr}
+use borrow.Author.Tests.{eq-eqb, ne-eqb, lt-ltb, le-ltb}
+use Rattle.xor.proofs.Cases.{by-equal, clash}
+use Rattle.solve.specs.Bit.{bit, IsLowest}
+use Rattle.solve.proofs.Lowest.{lowest-here, lowest-above, lowest-alike}
+
+digit : (m : ℕ) → m % 2 < 2
+digit m = mod-lt m (zero-lt-suc 1)
+
+-- ---- the lowest bit, and the others
+
+pub bit-first : (m : ℕ) → bit 0 m ≡ eqb (m % 2) 1
+unfolding bit
+bit-first m = ap (λ (x : ℕ). eqb (x % 2) 1) (div-one m)
+
+pub bit-next : (k m : ℕ) → bit (suc k) m ≡ bit k (m / 2)
+unfolding bit
+bit-next k m = ap (λ (x : ℕ). eqb (x % 2) 1) (ap (λ (x : ℕ). m / 2 ^ x) (sym (one-add k)) ∙ sym (shr-shr m 1 k))
+
+-- ---- the code's operations
+
+xor-digits : (x y : ℕ) → x < 2 → y < 2 → eqb (bitXor x y) 1 ≡ xor (eqb x 1) (eqb y 1)
+unfolding xor
+xor-digits zero zero lx ly = refl
+xor-digits zero (suc zero) lx ly = refl
+xor-digits (suc zero) zero lx ly = refl
+xor-digits (suc zero) (suc zero) lx ly = refl
+xor-digits zero (suc (suc y)) lx ly = absurd (omega arith)
+xor-digits (suc zero) (suc (suc y)) lx ly = absurd (omega arith)
+xor-digits (suc (suc x)) y lx ly = absurd (omega arith)
+
+and-digits : (x y : ℕ) → x < 2 → y < 2 → eqb (bitAnd x y) 1 ≡ (eqb x 1 && eqb y 1)
+and-digits zero zero lx ly = refl
+and-digits zero (suc zero) lx ly = refl
+and-digits (suc zero) zero lx ly = refl
+and-digits (suc zero) (suc zero) lx ly = refl
+and-digits zero (suc (suc y)) lx ly = absurd (omega arith)
+and-digits (suc zero) (suc (suc y)) lx ly = absurd (omega arith)
+and-digits (suc (suc x)) y lx ly = absurd (omega arith)
+
+pub bit-xor : (k a b : ℕ) → bit k (bitXor a b) ≡ xor (bit k a) (bit k b)
+unfolding bit
+bit-xor k a b =
+    ap (λ (x : ℕ). eqb (x % 2) 1) (xor-shr a b k) ∙ ap (λ (x : ℕ). eqb x 1) (xor-mod (a / 2 ^ k) (b / 2 ^ k) 1)
+    ∙ xor-digits (a / 2 ^ k % 2) (b / 2 ^ k % 2) (digit (a / 2 ^ k)) (digit (b / 2 ^ k))
+
+pub bit-and : (k a b : ℕ) → bit k (bitAnd a b) ≡ (bit k a && bit k b)
+unfolding bit
+bit-and k a b =
+    ap (λ (x : ℕ). eqb (x % 2) 1) (and-shr a b k) ∙ ap (λ (x : ℕ). eqb x 1) (and-mod (a / 2 ^ k) (b / 2 ^ k) 1)
+    ∙ and-digits (a / 2 ^ k % 2) (b / 2 ^ k % 2) (digit (a / 2 ^ k)) (digit (b / 2 ^ k))
+
+-- ---- the empty set, and the sets of one member
+
+pub bit-zero : (k : ℕ) → bit k 0 ≡ false
+bit-zero zero = bit-first 0
+bit-zero (suc k) = bit-next k 0 ∙ bit-zero k
+
+-- a set of bits below k with no member
+pub no-bits : (k m : ℕ) → m < 2 ^ k → ((q : ℕ) → q < k → bit q m ≡ false) → m ≡ 0
+no-bits zero m l h = lt-one l
+no-bits (suc k) m l h =
+    let halves : m / 2 ≡ 0 = no-bits k (m / 2) (div-lt-iff-lt-mul (zero-lt-suc 1) .1 (rw pow-suc at l)) (λ q lq. sym (bit-next q m) ∙ h (suc q) (omega arith)) in
+    let even : m % 2 ≢ 1 = λ e. clash (bit-first m ∙ ap (λ (x : ℕ). eqb x 1) e) (h 0 (omega arith)) in
+    omega arith
+
+pub bit-power : (k q : ℕ) → bit k (2 ^ q) ≡ eqb k q
+bit-power zero zero = bit-first 1
+bit-power zero (suc q) =
+    bit-first (2 ^ suc q) ∙ ap (λ (x : ℕ). eqb x 1) (ap (λ (x : ℕ). x % 2) (pow-suc 2 q) ∙ mul-mod-left (2 ^ q) 2) ∙ sym (ne-eqb 0 (suc q) (λ e. omega arith))
+bit-power (suc k) zero = bit-next k 1 ∙ bit-zero k ∙ sym (ne-eqb (suc k) 0 (λ e. omega arith))
+bit-power (suc k) (suc q) =
+    bit-next k (2 ^ suc q) ∙ ap (bit k) (ap (λ (x : ℕ). x / 2) (pow-suc 2 q) ∙ mul-div-cancel (2 ^ q) (zero-lt-suc 1)) ∙ bit-power k q ∙ sym (eqb·suc-suc k q)
+
+-- the set of all below n
+pub bit-ones : (k n : ℕ) → bit k (2 ^ n - 1) ≡ ltb k n
+bit-ones k zero = bit-zero k ∙ sym (le-ltb k 0 (omega arith))
+bit-ones zero (suc n) =
+    let some = pow-pos n in
+    bit-first (2 ^ suc n - 1) ∙ eq-eqb ((2 ^ suc n - 1) % 2) 1 (omega arith) ∙ sym (lt-ltb 0 (suc n) (omega arith))
+bit-ones (suc k) (suc n) =
+    let some = pow-pos n in
+    bit-next k (2 ^ suc n - 1) ∙ ap (bit k) (let half : (2 ^ suc n - 1) / 2 ≡ 2 ^ n - 1 = omega arith in half) ∙ bit-ones k n ∙ sym (leb·suc-suc (suc k) n)
+
+-- ---- the code's count of trailing zeros is the lowest set bit
+
+under-is : (k m d t : ℕ) → m % 2 ≡ d → d < 2 → IsLowest k (λ q. bit q (m / 2)) t → IsLowest (suc k) (λ q. bit q m) (under d t)
+under-is k m zero t e l h = lowest-above k (λ q. bit q m) t (bit-first m ∙ ap (λ (x : ℕ). eqb x 1) e) (lowest-alike k (λ q. bit q (m / 2)) (λ q. bit (suc q) m) t (λ q lq. sym (bit-next q m)) h)
+under-is k m (suc zero) t e l h = lowest-here k (λ q. bit q m) (bit-first m ∙ ap (λ (x : ℕ). eqb x 1) e)
+under-is k m (suc (suc d)) t e l h = absurd (omega arith)
+
+pub trailing-lowest : (k m : ℕ) → IsLowest k (λ q. bit q m) (trailingZeros k m)
+unfolding trailingZeros
+trailing-lowest zero m = record { most = omega arith; passes = λ l. absurd (omega arith); before = λ q l. absurd (omega arith) }
+trailing-lowest (suc k) m = under-is k m (m % 2) (trailingZeros k (m / 2)) refl (digit m) (trailing-lowest k (m / 2))
+
+-- a set that is not empty has a lowest member
+pub some-bit : (k m : ℕ) → m < 2 ^ k → m ≢ 0 → trailingZeros k m < k
+some-bit k m l h =
+    let found = trailing-lowest k m in
+    by-equal (trailingZeros k m) k (λ e. absurd (h (no-bits k m l (λ q lq. found .before q (omega arith))))) (λ e. let most = found .most in omega arith)

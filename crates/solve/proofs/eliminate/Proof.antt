@@ -1,0 +1,104 @@
+-- `solve::eliminate` meets its contract. The loop's invariant: on every problem with the first masks the run has come to lost cell number k,
+-- and the masks are those of its state.
+use Prim.Native.Nat.{_-_}
+use native.Mathlib.Omega.{arith}
+use lib.Pow.{pow-pos}
+use borrow.Author.Needs.{needs}
+use Rattle.solve.proofs.Eliminating.{Sofar, sofar-first, sofar-more, sofar-stops, sofar-all}
+use Rattle.solve.proofs.eliminate.Statement.{statement}
+use Rattle.solve.proofs.eliminate.Tie as tie
+
+abbrev Inv-loop : tie.InvT-loop
+Inv-loop holders₀ sources₀ chosen₀ lost equations unused₀ k₀ holders sources chosen unused k = Sofar equations lost holders₀ holders sources chosen unused k
+
+abbrev μ-loop : tie.MeasureT-loop
+μ-loop holders₀ sources₀ chosen₀ lost equations unused₀ k₀ holders sources chosen unused k = lost - k
+
+own-sources-requires : tie.Need-own-sources-requires Inv-loop μ-loop
+own-sources-requires c κs = search needs
+
+one-bit-requires : tie.Need-one-bit-requires Inv-loop μ-loop
+one-bit-requires c κs = search needs
+
+sub-unused : tie.Need-sub-unused Inv-loop μ-loop
+sub-unused c = omega (arith, c .one-bit .ensures, pow-pos (c .before .before .before .args .equations))
+
+loop-holds : tie.Need-loop-holds Inv-loop μ-loop
+loop-holds c = sofar-first _ _ _ _ _ _ (c .before .before .before .pre .0) (c .before .before .before .pre .2) (c .before .own-sources .ensures) (c .one-bit .ensures)
+
+mul-mask : tie.Need-mul-mask Inv-loop μ-loop
+mul-mask c = search needs
+
+element-copy-out-mask : tie.Need-element-copy-out-mask Inv-loop μ-loop
+element-copy-out-mask c = search needs
+
+returns : tie.Need-returns Inv-loop μ-loop
+returns c = sofar-stops _ _ _ _ _ _ _ _ (omega arith) (c .if1 .taken) (c .before .before .before .loop .inv)
+
+lowest-bit-requires : tie.Need-lowest-bit-requires Inv-loop μ-loop
+lowest-bit-requires c κs = search needs
+
+cast-q : tie.Need-cast-q Inv-loop μ-loop
+cast-q c = search needs
+
+one-bit-requires-2 : tie.Need-one-bit-requires-2 Inv-loop μ-loop
+one-bit-requires-2 c κs = search needs
+
+add-sweep : tie.Need-add-sweep Inv-loop μ-loop
+add-sweep c = search needs
+
+sweep-requires : tie.Need-sweep-requires Inv-loop μ-loop
+sweep-requires c κs =
+    let entry = c .before .before .before .before .before .before .before .before .before .before in
+    (c .before .before .before .before .before .before .loop .inv .longHolders, entry .pre .3, c .before .before .lowest-bit .ensures .0)
+
+spread-requires : tie.Need-spread-requires Inv-loop μ-loop
+spread-requires c κs = (c .before .before .before .before .before .before .before .before .loop .inv .longSources, c .before .before .before .before .lowest-bit .ensures .0)
+
+mul-chosen : tie.Need-mul-chosen Inv-loop μ-loop
+mul-chosen c = search needs
+
+element-write-chosen : tie.Need-element-write-chosen Inv-loop μ-loop
+element-write-chosen c = search needs
+
+add-k : tie.Need-add-k Inv-loop μ-loop
+add-k c = search needs
+
+loop-less : tie.Need-loop-less Inv-loop μ-loop
+loop-less c = omega arith
+
+loop-again : tie.Need-loop-again Inv-loop μ-loop
+loop-again c =
+    let entry = c .before .before .before .before .before .before .before .before .before .before .before .before .before in
+    let found = c .before .before .before .before .before .lowest-bit .ensures in
+    sofar-more _ _ _ _ _ _ _ _ _ _ _ _ (entry .pre .4) (entry .pre .3) (omega arith) (found .0) (found .1) (c .before .before .before .before .one-bit2 .ensures)
+    (c .before .before .sweep .ensures) (c .spread .ensures) (c .before .before .before .before .before .before .before .before .before .loop .inv)
+
+returns-2 : tie.Need-returns-2 Inv-loop μ-loop
+returns-2 c = sofar-all _ _ _ _ _ _ _ _ (let low = c .before .loop .inv .low in omega arith) (c .before .loop .inv)
+
+pub eliminate-spec : {M : Type 1} → statement M
+eliminate-spec =
+    tie.close
+    (tie.spec
+    Inv-loop
+    μ-loop
+    own-sources-requires
+    one-bit-requires
+    sub-unused
+    loop-holds
+    mul-mask
+    element-copy-out-mask
+    returns
+    lowest-bit-requires
+    cast-q
+    one-bit-requires-2
+    add-sweep
+    sweep-requires
+    spread-requires
+    mul-chosen
+    element-write-chosen
+    add-k
+    loop-less
+    loop-again
+    returns-2)

@@ -1,0 +1,60 @@
+-- What a small write promises: document 01, "What each call gives".
+use mathlib.Core.Path.{_≡_}
+use mathlib.Core.Logic.{_≢_}
+use mathlib.Core.List.{List}
+use mathlib.Core.Bool.{false, not, _&&_}
+use Prim.Native.Nat.{ℕ, _<_}
+use lib.Dec.{eqb}
+use lib.ListN.{length, getD}
+use Rattle.xor.specs.Xor.{_⊕_}
+use Rattle.xor.specs.Sets.{count}
+use Rattle.codes.specs.declared.Shape.{Shape}
+use Rattle.codes.specs.Shape.{cells, equations, cellNumber, stripeLength}
+use Rattle.codes.specs.Encoded.{byteAt, parityCell, sumOver, isParity, Encoded}
+use Rattle.codes.specs.Refusals.{refusal, writeFaults}
+use Rattle.stripe.specs.declared.WriteCount.{WriteCount}
+use Rattle.stripe.specs.declared.WriteCount.the-variants.{ParityCells, Refused}
+
+-- d is the difference of the old bytes of cell c and the new ones, put alone into a stripe of zero data, and encoded
+pub record Difference (s : Shape) (c : ℕ) (old bytes d : List ℕ) : Type 0 where
+  pub long : length d ≡ stripeLength s
+  pub own : (t : ℕ) → t < s .cell → byteAt s d c t ≡ byteAt s old c t ⊕ getD bytes t 0
+  pub zeros : (k : ℕ) → k < cells s → isParity s k ≡ false → k ≢ c → (t : ℕ) → t < s .cell → byteAt s d k t ≡ 0
+  pub encoded : Encoded s d
+
+-- new is the XOR of old with that stripe
+pub record Written (s : Shape) (c : ℕ) (old bytes new : List ℕ) : Type 0 where
+  pub long : length new ≡ length old
+  pub difference : List ℕ
+  pub alone : Difference s c old bytes difference
+  pub sum : (k : ℕ) → k < cells s → (t : ℕ) → t < s .cell → byteAt s new k t ≡ byteAt s old k t ⊕ byteAt s difference k t
+
+-- unit has 1 at cell c and zero in all other data, and is encoded: one value for each cell
+pub record Unit (s : Shape) (c : ℕ) (unit : ℕ → ℕ) : Type 0 where
+  pub own : unit c ≡ 1
+  pub zeros : (k : ℕ) → k < cells s → isParity s k ≡ false → k ≢ c → unit k ≡ 0
+  pub holds : (q : ℕ) → q < equations s → unit (parityCell s q) ≡ sumOver s q unit
+
+-- n parity cells depend on cell c: those that are not 0 where 1 is put alone at c and encoded
+pub record Depending (s : Shape) (c n : ℕ) : Type 0 where
+  pub unit : ℕ → ℕ
+  pub alone : Unit s c unit
+  pub size : n ≡ count (cells s) (λ k. isParity s k && not (eqb (unit k) 0))
+
+-- the refusal number that an answer gives; 0 where it gives a count
+abbrev pub writeNumber : WriteCount → ℕ
+writeNumber (ParityCells n) = 0
+writeNumber (Refused number) = number
+
+-- an answer that counts the parity cells that depend on cell c
+pub record CountsDepending (s : Shape) (c : ℕ) (answer : WriteCount) : Type 0 where
+  pub cells : ℕ
+  pub says : answer ≡ ParityCells cells
+  pub depending : Depending s c cells
+
+-- a small write leaves the stripe so written and answers the count, or it answers the refusal and leaves every byte
+pub record Writes (s : Shape) (row column : ℕ) (bytes old : List ℕ) (answer : WriteCount) (new : List ℕ) : Type 0 where
+  pub number : writeNumber answer ≡ refusal (writeFaults s (length old) row column (length bytes))
+  pub refused : writeNumber answer ≢ 0 → new ≡ old
+  pub count : writeNumber answer ≡ 0 → CountsDepending s (cellNumber s row column) answer
+  pub done : writeNumber answer ≡ 0 → Written s (cellNumber s row column) old bytes new

@@ -1,0 +1,212 @@
+//! Which small writes are compared.
+
+use crate::bridge::{Loan, Place};
+use crate::cases::{Case, Cases, Fill, New};
+use crate::second::{Call, Operation, Position, Shape, PRIMES};
+use Operation::{Broken, Write};
+
+const SMALL_CELLS: [u64; 12] = [1, 2, 3, 7, 31, 64, 127, 128, 129, 255, 256, 257];
+const LARGE_CELLS: [u64; 3] = [512, 1000, 4096];
+const FILLS: [Fill; 3] = [Fill::Encoded, Fill::Random, Fill::CellDamaged];
+const NEWS: [New; 3] = [New::Random, New::Same, New::OneByte];
+
+impl Cases<'_> {
+    pub fn writes(&mut self) {
+        self.every_position();
+        self.write_shapes();
+        self.bad_writes();
+        self.wrong_new_bytes();
+        self.far_positions();
+        self.write_every_p();
+    }
+
+    /// Lends in any place, and sealed only what the call may not write.
+    pub fn push_call(&mut self, call: Call, fill: Fill, new: New) {
+        let (stripe, bytes) = (self.place(call.length), self.place(call.bytes_length));
+        self.push_lent(call, fill, new, stripe, bytes);
+    }
+
+    fn push_lent(&mut self, call: Call, fill: Fill, new: New, stripe: Place, bytes: Place) {
+        let still = call.operation == Broken || self.second.refusal(&call) != 0;
+        let stripe = Loan { place: stripe, sealed: still && self.random.below(4) == 0 };
+        let bytes = Loan { place: bytes, sealed: self.random.below(2) == 0 };
+        self.list.push(Case { call, fill, new, stripe, bytes });
+    }
+
+    fn place(&mut self, length: u64) -> Place {
+        let places = self.places();
+        if length == 0 && self.random.below(2) == 0 {
+            Place::Null
+        } else {
+            self.random.one_of(&places)
+        }
+    }
+
+    fn write(&self, shape: Shape, (row, column): Position) -> Call {
+        let length = self.second.length(shape).expect("a good shape");
+        let (row, column) = (row as u64, column as u64);
+        Call { operation: Write, shape, length, row, column, bytes_length: shape.cell }
+    }
+
+    /// A random position of data or of parity.
+    fn position(&mut self, shape: Shape, parity: bool) -> Position {
+        let layout = self.second.layout(shape.code, shape.p).expect("a good shape");
+        loop {
+            let position = (self.random.below(layout.rows), self.random.below(layout.columns));
+            if layout.is_parity(position) == parity {
+                return position;
+            }
+        }
+    }
+
+    /// Every row and column from 0 to p + 1, so that all that lie in the stripe are
+    /// among them, swapped too. Above p = 13 one call for each, else three.
+    fn every_position(&mut self) {
+        for (code, p) in (1..=3).flat_map(|code| PRIMES.map(|p| (code, p))) {
+            let side = p as usize + 2;
+            for position in (0..side).flat_map(|row| (0..side).map(move |column| (row, column))) {
+                let cell = self.random.one_of(&[1, 2, 3, 7]);
+                let call = self.write(Shape { code, p, cell }, position);
+                let (fill, new) = (self.random.one_of(&FILLS), self.random.one_of(&NEWS));
+                if p > 13 {
+                    self.push_call(call, fill, new);
+                    continue;
+                }
+                self.push_call(call, Fill::Encoded, New::Random);
+                self.push_call(call, Fill::Random, New::Random);
+                self.push_call(call, fill, New::Same);
+            }
+        }
+    }
+
+    /// The listed cell sizes: the small ones for all primes in all places, the
+    /// large ones for the smallest primes in all places and for the largest in one.
+    fn write_shapes(&mut self) {
+        for (code, p) in (1..=3).flat_map(|code| PRIMES.map(|p| (code, p))) {
+            for cell in SMALL_CELLS {
+                self.all_places(Shape { code, p, cell });
+            }
+            for cell in LARGE_CELLS {
+                let shape = Shape { code, p, cell };
+                if p <= 7 {
+                    self.all_places(shape);
+                } else if p == 31 {
+                    self.push_write(shape);
+                }
+            }
+        }
+    }
+
+    fn all_places(&mut self, shape: Shape) {
+        for stripe in self.places() {
+            for bytes in self.places() {
+                let position = self.position(shape, false);
+                let (fill, new) = (self.random.one_of(&FILLS), self.random.one_of(&NEWS));
+                self.push_lent(self.write(shape, position), fill, new, stripe, bytes);
+            }
+        }
+    }
+
+    fn push_write(&mut self, shape: Shape) {
+        let position = self.position(shape, false);
+        let (fill, new) = (self.random.one_of(&FILLS), self.random.one_of(&NEWS));
+        self.push_call(self.write(shape, position), fill, new);
+    }
+
+    /// Every parameter good, at 0, one past its range and at its most, in all
+    /// combinations: the lowest refusal number must come.
+    fn bad_writes(&mut self) {
+        for code in [0, 1, 2, 3, 4, u64::MAX] {
+            for p in [0, 5, 32, u64::MAX] {
+                for cell in [0, 3, 4097, u64::MAX] {
+                    self.bad_operands(Shape { code, p, cell });
+                }
+            }
+        }
+    }
+
+    fn bad_operands(&mut self, shape: Shape) {
+        let good = self.mended(shape);
+        let layout = self.second.layout(good.code, good.p).expect("a good shape");
+        let cell = if shape.cell == 4097 { 4097 } else { good.cell };
+        let right = layout.cells() as u64 * cell;
+        let [rows, columns] = [layout.rows, layout.columns].map(|end| {
+            let end = end as u64;
+            [0, end / 2, end - 1, end, u64::MAX]
+        });
+        for length in [0, right, right + 1, u64::MAX] {
+            for row in rows {
+                for column in columns {
+                    for bytes_length in [0, cell, cell + 1, u64::MAX] {
+                        let call = Call { operation: Write, shape, length, row, column, bytes_length };
+                        self.push_call(call, Fill::Random, New::Random);
+                    }
+                }
+            }
+        }
+    }
+
+    /// New bytes that are not one cell long, for data, for parity and for outside.
+    fn wrong_new_bytes(&mut self) {
+        for (code, p) in (1..=3).flat_map(|code| [3, 7].map(|p| (code, p))) {
+            for cell in SMALL_CELLS.into_iter().chain(LARGE_CELLS) {
+                let shape = Shape { code, p, cell };
+                let (data, parity) = (self.position(shape, false), self.position(shape, true));
+                let another = self.random.one_of(&SMALL_CELLS);
+                let near = [0, cell - 1, cell + 1, another, 2 * cell, 4096];
+                let beyond = [cell + (1 << 8), cell + (1 << 32), cell + (1 << 63), u64::MAX];
+                for bytes_length in near.into_iter().chain(beyond) {
+                    for position in [data, parity, (data.0, p as usize + 1)] {
+                        let call = Call { bytes_length, ..self.write(shape, position) };
+                        self.push_call(call, Fill::Encoded, New::Random);
+                    }
+                }
+            }
+        }
+    }
+
+    /// Rows and columns that look like good ones when cut short, and those that name
+    /// a cell of the stripe by its number alone.
+    fn far_positions(&mut self) {
+        for (code, p) in (1..=3).flat_map(|code| PRIMES.map(|p| (code, p))) {
+            let shape = Shape { code, p, cell: 1 };
+            let rows = self.second.layout(code, p).expect("a good shape").rows as u64;
+            let position = self.position(shape, false);
+            let call = self.write(shape, position);
+            let mut push =
+                |row, column| self.push_call(Call { row, column, ..call }, Fill::Encoded, New::Random);
+            for far in [1 << 8, 1 << 16, 1 << 32, 1 << 62, 1 << 63] {
+                push(call.row + far, call.column);
+                push(call.row, call.column + far);
+                push(call.row + far, call.column + far);
+            }
+            push(call.row.wrapping_sub(rows), call.column + 1);
+            push(call.row + rows, call.column.wrapping_sub(1));
+            push(call.row + rows * call.column, 0);
+        }
+    }
+
+    /// Every p up to past 128, each with the length that would be right for it.
+    fn write_every_p(&mut self) {
+        for p in 0..=133u64 {
+            for (code, length) in [(1, (p * p).wrapping_sub(1)), (2, (p * p).wrapping_sub(1)), (3, p * p)] {
+                let shape = Shape { code, p, cell: 1 };
+                let call = Call { operation: Write, shape, length, row: 0, column: 0, bytes_length: 1 };
+                self.push_call(call, Fill::Random, New::Random);
+            }
+        }
+    }
+
+    /// Mostly a write that is carried out; at times to parity or with wrong new bytes.
+    pub fn random_write(&mut self) {
+        let shape = self.random_shape();
+        let parity = self.random.below(16) == 0;
+        let position = self.position(shape, parity);
+        let mut call = self.write(shape, position);
+        if self.random.below(16) == 0 {
+            call.bytes_length = self.random.below(4200) as u64;
+        }
+        let (fill, new) = (self.random.one_of(&FILLS), self.random.one_of(&NEWS));
+        self.push_call(call, fill, new);
+    }
+}
