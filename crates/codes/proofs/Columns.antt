@@ -5,20 +5,20 @@ use mathlib.Core.Bool.{Bool, true, false, cond}
 use Prim.Native.Nat.{ℕ, _/_, _%_, _≤_, _<_}
 use native.Mathlib.Nat.{mod-lt, div-add-mod'}
 use native.Mathlib.Omega.{arith}
-use lib.Arith.{digits-lt, digits-div, digits-mod}
 use lib.Dec.{eqb, ltb}
 use borrow.Author.Tests.{lt-ltb, le-ltb, eq-eqb, ne-eqb}
 use Rattle.xor.specs.Xor.{_⊕_, xors}
 use Rattle.xor.proofs.Cases.{by-test, by-equal, by-less, clash}
 use Rattle.xor.proofs.Algebra.{zero-⊕, ⊕-zero, ⊕-equal}
-use Rattle.xor.proofs.Sums.{xors-zero}
+use Rattle.xor.proofs.Sums.{xors-zero, xors-one}
 use Rattle.codes.specs.declared.Shape.{Shape}
 use Rattle.codes.specs.Shape.{rows, columns, cells, equations, cellNumber, WellFormed}
 use Rattle.codes.specs.Equations.{Equation, equation}
 use Rattle.codes.specs.Encoded.{parityCell, sumsCell, sumOver}
 use Rattle.codes.proofs.Shapes.{rows-low}
 use Rattle.codes.proofs.Ordered.{ordered}
-use Rattle.codes.proofs.Solutions.{Solves, plus, xors-one, total, total-plus, total-zero, total-same}
+use Rattle.codes.proofs.Positions.{row-is, column-is, cell-inside, parity-of, sums-of}
+use Rattle.codes.proofs.Solutions.{Solves, plus, total, total-plus, total-zero, total-same}
 
 -- cell c takes part in equation q: as its parity cell, or as one that it sums
 abbrev TakesPart : Shape → ℕ → ℕ → Type 0
@@ -55,41 +55,21 @@ module _ (s : Shape) (w : WellFormed s) where
   pos : 0 < rows s
   pos = omega (arith, rows-low s w)
 
-  row-of : (i j : ℕ) → i < rows s → cellNumber s i j % rows s ≡ i
-  unfolding cellNumber
-  row-of i j l = digits-mod j l
-
-  column-of : (i j : ℕ) → i < rows s → cellNumber s i j / rows s ≡ j
-  unfolding cellNumber
-  column-of i j l = digits-div j l
-
   cell-is : (c : ℕ) → cellNumber s (c % rows s) (c / rows s) ≡ c
   unfolding cellNumber
   cell-is c = div-add-mod' c (rows s)
 
-  inside : (i j : ℕ) → i < rows s → j < columns s → cellNumber s i j < cells s
-  unfolding cellNumber cells
-  inside i j li lj = digits-lt lj li
-
   -- ---- where an equation meets a column, by its row, column and test
 
   module _ (q : ℕ) (e : Equation) (is : equation s q ≡ e) (low : e .row < rows s) where
-    parity-is : parityCell s q ≡ cellNumber s (e .row) (e .column)
-    unfolding parityCell
-    parity-is = ap (λ (x : Equation). cellNumber s (x .row) (x .column)) is
-
-    sums-is : (i j : ℕ) → i < rows s → sumsCell s q (cellNumber s i j) ≡ e .sums i j
-    unfolding sumsCell
-    sums-is i j l = ap (λ (x : Equation). x .sums (cellNumber s i j % rows s) (cellNumber s i j / rows s)) is ∙ ap₂ (e .sums) (row-of i j l) (column-of i j l)
-
     pub meets : (j r : ℕ) → (r < rows s → ((r ≡ e .row) × (j ≡ e .column)) ⊎ (e .sums r j ≡ true)) → (j ≡ e .column → e .row ≡ r)
         → ((i : ℕ) → i < rows s → e .sums i j ≡ true → i ≡ r) → Meets s q j r
     meets j r here parity summed = record {
-      there = λ l. ⊎-elim (λ h. inl (ap₂ (cellNumber s) (h .0) (h .1) ∙ sym parity-is)) (λ h. inr (sums-is r j l ∙ h)) (here l);
+      there = λ l. ⊎-elim (λ h. inl (ap₂ (cellNumber s) (h .0) (h .1) ∙ sym (parity-of s w q e is))) (λ h. inr (sums-of s w q e is r j l ∙ h)) (here l);
       nowhere-else = λ i l. ⊎-elim
-          (λ h. sym (row-of i j l) ∙ ap (λ (c : ℕ). c % rows s) (h ∙ parity-is) ∙ row-of (e .row) (e .column) low
-          ∙ parity (sym (column-of i j l) ∙ ap (λ (c : ℕ). c / rows s) (h ∙ parity-is) ∙ column-of (e .row) (e .column) low))
-          (λ h. summed i l (sym (sums-is i j l) ∙ h));
+          (λ h. sym (row-is s w i j l) ∙ ap (λ (c : ℕ). c % rows s) (h ∙ parity-of s w q e is) ∙ row-is s w (e .row) (e .column) low
+          ∙ parity (sym (column-is s w i j l) ∙ ap (λ (c : ℕ). c / rows s) (h ∙ parity-of s w q e is) ∙ column-is s w (e .row) (e .column) low))
+          (λ h. summed i l (sym (sums-of s w q e is i j l) ∙ h));
     }
 
   -- ---- the part of an equation that lies in one column
@@ -142,9 +122,9 @@ module _ (s : Shape) (w : WellFormed s) where
 
         hit : r < rows s → total s q (only s j v) ≡ entry s v j r
         hit l =
-            total-one q lq (only s j v) (cellNumber s r j) (inside r j l lj) (m .there l)
+            total-one q lq (only s j v) (cellNumber s r j) (cell-inside s w r j l lj) (m .there l)
             (λ c lc part n. by-equal (c / rows s) j (λ e. absurd (n (sym (cell-is c) ∙ ap₂ (cellNumber s) (in-row c e part) e))) (only-out j c))
-            ∙ only-in j (cellNumber s r j) (column-of r j l) ∙ sym (entry-in s v j r l)
+            ∙ only-in j (cellNumber s r j) (column-is s w r j l) ∙ sym (entry-in s v j r l)
 
         miss : rows s ≤ r → total s q (only s j v) ≡ entry s v j r
         miss l =

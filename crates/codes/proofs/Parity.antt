@@ -8,7 +8,7 @@ use native.Mathlib.Omega.{arith}
 use lib.ListN.{length, getD}
 use lib.Seq.{ext-getD}
 use Rattle.xor.proofs.Cases.{by-test}
-use Rattle.xor.proofs.Sums.{xors-same, xors-byte}
+use Rattle.xor.proofs.Sums.{xors-same, xors-bits}
 use Rattle.codes.specs.declared.Shape.{Shape}
 use Rattle.codes.specs.Shape.{cells, stripeLength, WellFormed}
 use Rattle.codes.specs.Encoded.{sumsCell, sumOver, byteAt}
@@ -24,7 +24,7 @@ module _ (s : Shape) (q : ℕ) where
   -- the sum of bytes is a byte
   pub sum-byte : (f : ℕ → ℕ) → ((c : ℕ) → c < cells s → f c < 256) → sumOver s q f < 256
   unfolding sumOver
-  sum-byte f h = xors-byte (cells s) (λ c. cond (sumsCell s q c) (f c) 0) (λ c l. by-test (sumsCell s q c) (λ p. rw p (h c l)) (λ p. rw p (omega arith)))
+  sum-byte f h = xors-bits 8 (cells s) (λ c. cond (sumsCell s q c) (f c) 0) (λ c l. by-test (sumsCell s q c) (λ p. rw p (h c l)) (λ p. rw p (omega arith)))
 
 -- a byte of the stripe is a byte of a cell
 pub byte-is : (s : Shape) → WellFormed s → (stripe : List ℕ) (i : ℕ) → getD stripe i 0 ≡ byteAt s stripe (i / s .cell) (i % s .cell)

@@ -57,11 +57,11 @@ module _ (s : Shape) (w : WellFormed s) where
   same-column i j k l li lk e = sym (column-is i j li) ∙ ap (λ (c : ℕ). c / rows s) e ∙ column-is k l lk
 
   -- an equation that is known
-  parity-of : (q : ℕ) (e : Equation) → equation s q ≡ e → parityCell s q ≡ cellNumber s (e .row) (e .column)
+  pub parity-of : (q : ℕ) (e : Equation) → equation s q ≡ e → parityCell s q ≡ cellNumber s (e .row) (e .column)
   unfolding parityCell
   parity-of q e is = ap (λ (x : Equation). cellNumber s (x .row) (x .column)) is
 
-  sums-of : (q : ℕ) (e : Equation) → equation s q ≡ e → (i j : ℕ) → i < rows s → sumsCell s q (cellNumber s i j) ≡ e .sums i j
+  pub sums-of : (q : ℕ) (e : Equation) → equation s q ≡ e → (i j : ℕ) → i < rows s → sumsCell s q (cellNumber s i j) ≡ e .sums i j
   unfolding sumsCell
   sums-of q e is i j l = ap (λ (x : Equation). x .sums (cellNumber s i j % rows s) (cellNumber s i j / rows s)) is ∙ ap₂ (e .sums) (row-is i j l) (column-is i j l)
 
@@ -88,12 +88,6 @@ module _ (s : Shape) (w : WellFormed s) where
         (λ r l e. let same = sym (first r l) ∙ e in one r l (same-row (rowOf r) (columnOf r) i j (small r l) li same) (same-column (rowOf r) (columnOf r) i j (small r l) li same))
         (λ d l e. let same = sym (second d l) ∙ e in other d l (same-row (rowOf′ d) (columnOf′ d) i j (small′ d l) li same) (same-column (rowOf′ d) (columnOf′ d) i j (small′ d l) li same))
         (found .0) (omega (arith, found .1, all)) (found .2)
-
-    parity-first : (r : ℕ) → r < n → isParity s (cellNumber s (rowOf r) (columnOf r)) ≡ true
-    parity-first r l = parity-yes r (cellNumber s (rowOf r) (columnOf r)) (omega (arith, all)) (first r l)
-
-    parity-second : (d : ℕ) → d < n → isParity s (cellNumber s (rowOf′ d) (columnOf′ d)) ≡ true
-    parity-second d l = parity-yes (n + d) (cellNumber s (rowOf′ d) (columnOf′ d)) (omega (arith, all)) (second d l)
 
   -- ---- RDP
 

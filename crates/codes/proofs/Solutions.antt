@@ -1,13 +1,11 @@
 -- Solutions: one value for each cell, such that every equation holds. Sums of solutions are solutions, as XOR can be done cell by cell.
 use mathlib.Core.Path.{_≡_, refl, sym, ap, ap₂, _∙_}
-use mathlib.Core.Logic.{_≢_}
 use mathlib.Core.Bool.{cond}
-use Prim.Native.Nat.{ℕ, zero, suc, _<_}
-use native.Mathlib.Omega.{arith}
-use Rattle.xor.specs.Xor.{_⊕_, xors}
-use Rattle.xor.proofs.Cases.{by-test, by-equal}
-use Rattle.xor.proofs.Algebra.{zero-⊕, ⊕-zero, ⊕-comm, ⊕-assoc, equal-⊕}
-use Rattle.xor.proofs.Sums.{xors-same, xors-zero}
+use Prim.Native.Nat.{ℕ, _<_}
+use Rattle.xor.specs.Xor.{_⊕_}
+use Rattle.xor.proofs.Cases.{by-test}
+use Rattle.xor.proofs.Algebra.{zero-⊕, swap-middle, equal-⊕}
+use Rattle.xor.proofs.Sums.{xors-same, xors-plus}
 use Rattle.codes.specs.declared.Shape.{Shape}
 use Rattle.codes.specs.Shape.{cells, equations, WellFormed}
 use Rattle.codes.specs.Encoded.{parityCell, sumsCell, sumOver}
@@ -23,24 +21,6 @@ abbrev pub plus : (ℕ → ℕ) → (ℕ → ℕ) → ℕ → ℕ
 plus f g c = f c ⊕ g c
 
 -- ---- sums
-
-swap-middle : (a b c d : ℕ) → (a ⊕ b) ⊕ (c ⊕ d) ≡ (a ⊕ c) ⊕ (b ⊕ d)
-swap-middle a b c d =
-    ⊕-assoc a b (c ⊕ d) ∙ ap (λ (x : ℕ). a ⊕ x) (sym (⊕-assoc b c d) ∙ ap (λ (x : ℕ). x ⊕ d) (⊕-comm b c) ∙ ⊕-assoc c b d) ∙ sym (⊕-assoc a c (b ⊕ d))
-
-xors-plus : (n : ℕ) (f g : ℕ → ℕ) → xors n (plus f g) ≡ xors n f ⊕ xors n g
-unfolding xors
-xors-plus zero f g = sym (zero-⊕ 0)
-xors-plus (suc n) f g = ap (λ (x : ℕ). x ⊕ (f n ⊕ g n)) (xors-plus n f g) ∙ swap-middle (xors n f) (xors n g) (f n) (g n)
-
--- a sum in which all but one are 0
-pub xors-one : (n : ℕ) (f : ℕ → ℕ) (d : ℕ) → d < n → ((k : ℕ) → k < n → k ≢ d → f k ≡ 0) → xors n f ≡ f d
-unfolding xors
-xors-one zero f d l h = absurd (omega arith)
-xors-one (suc n) f d l h =
-    by-equal d n
-    (λ e. ap₂ _⊕_ (xors-zero n f (λ k lk. h k (omega arith) (λ q. omega arith))) (ap f (sym e)) ∙ zero-⊕ (f d))
-    (λ e. ap₂ _⊕_ (xors-one n f d (omega arith) (λ k lk. h k (omega arith))) (h n (omega arith) (λ q. e (sym q))) ∙ ⊕-zero (f d))
 
 module _ (s : Shape) (q : ℕ) where
   pub sum-plus : (f g : ℕ → ℕ) → sumOver s q (plus f g) ≡ sumOver s q f ⊕ sumOver s q g

@@ -2,46 +2,22 @@
 use mathlib.Core.Path.{_≡_, refl, sym, ap, ap₂, _∙_}
 use mathlib.Core.Logic.{_≢_}
 use mathlib.Core.Bool.{Bool, true, false, cond, not, _&&_, xor}
-use Prim.Native.Nat.{ℕ, zero, suc, _^_, _<_}
-use native.Mathlib.Omega.{arith}
-use lib.Bits.{xor-lt}
+use Prim.Native.Nat.{ℕ, zero, _^_, _<_}
 use lib.Dec.{eqb}
 use lib.Pow.{pow-pos}
 use borrow.Author.Tests.{eq-eqb, ne-eqb}
 use Rattle.xor.specs.Xor.{_⊕_, xors}
 use Rattle.xor.proofs.Cases.{by-test, by-equal, clash}
-use Rattle.xor.proofs.Algebra.{⊕-is, zero-⊕, ⊕-zero, ⊕-comm, ⊕-assoc, ⊕-self}
-use Rattle.xor.proofs.Sums.{xors-same, xors-zero}
+use Rattle.xor.proofs.Algebra.{zero-⊕, ⊕-zero, ⊕-self}
+use Rattle.xor.proofs.Sums.{xors-same, xors-zero, xors-one, xors-plus, xors-bits}
 use Rattle.solve.specs.Solution.{over}
 use Rattle.solve.proofs.Tests.{split-by}
 
 -- ---- sums of numbers
 
-swap-middle : (a b c d : ℕ) → (a ⊕ b) ⊕ (c ⊕ d) ≡ (a ⊕ c) ⊕ (b ⊕ d)
-swap-middle a b c d =
-    ⊕-assoc a b (c ⊕ d)
-    ∙ ap (λ (x : ℕ). a ⊕ x) (sym (⊕-assoc b c d) ∙ ap (λ (x : ℕ). x ⊕ d) (⊕-comm b c) ∙ ⊕-assoc c b d)
-    ∙ sym (⊕-assoc a c (b ⊕ d))
-
-pub xors-plus : (n : ℕ) (f g : ℕ → ℕ) → xors n (λ k. f k ⊕ g k) ≡ xors n f ⊕ xors n g
-unfolding xors
-xors-plus zero f g = sym (zero-⊕ 0)
-xors-plus (suc n) f g = ap (λ (x : ℕ). x ⊕ (f n ⊕ g n)) (xors-plus n f g) ∙ swap-middle (xors n f) (xors n g) (f n) (g n)
-
 -- one number is x, the others are zero
 pub xors-single : (n d x : ℕ) → d < n → xors n (λ k. cond (eqb k d) x 0) ≡ x
-unfolding xors
-xors-single zero d x l = absurd (omega arith)
-xors-single (suc n) d x l =
-    by-equal d n
-    (λ e. ap₂ _⊕_ (xors-zero n (λ k. cond (eqb k d) x 0) (λ k lk. rw (ne-eqb k d (λ q. omega arith)) refl)) (rw (eq-eqb n d (sym e)) refl) ∙ zero-⊕ x)
-    (λ e. ap₂ _⊕_ (xors-single n d x (omega arith)) (rw (ne-eqb n d (λ q. e (sym q))) refl) ∙ ⊕-zero x)
-
--- numbers of b bits have a sum of b bits
-pub xors-bits : (b n : ℕ) (f : ℕ → ℕ) → ((k : ℕ) → k < n → f k < 2 ^ b) → xors n f < 2 ^ b
-unfolding xors
-xors-bits b zero f h = pow-pos b
-xors-bits b (suc n) f h = rw (⊕-is (xors n f) (f n)) (xor-lt b (xors n f) (f n) (xors-bits b n f (λ k l. h k (omega arith))) (h n (omega arith)))
+xors-single n d x l = xors-one n (λ k. cond (eqb k d) x 0) d l (λ k lk e. rw (ne-eqb k d e) refl) ∙ rw (eq-eqb d d refl) refl
 
 -- ---- the values
 

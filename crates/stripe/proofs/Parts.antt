@@ -11,7 +11,7 @@ use Rattle.xor.specs.Xor.{_⊕_}
 use Rattle.xor.specs.Sets.{count}
 use Rattle.xor.proofs.Cases.{by-test, by-equal, by-less, clash, and-left, and-right, not-passed}
 use Rattle.xor.proofs.Algebra.{zero-⊕, ⊕-zero}
-use Rattle.xor.proofs.Sums.{xors-zero}
+use Rattle.xor.proofs.Sums.{xors-zero, xors-one}
 use Rattle.xor.proofs.Sets.{any-at, count-same, count-insert, count-never}
 use Rattle.codes.specs.declared.Shape.{Shape}
 use Rattle.codes.specs.declared.Dependents.{Dependents}
@@ -20,7 +20,7 @@ use Rattle.codes.specs.Encoded.{parityCell, sumsCell, sumOver, isParity}
 use Rattle.codes.specs.Depends.{DependOn}
 use Rattle.codes.proofs.Ordered.{ordered}
 use Rattle.codes.proofs.Parity.{sum-same}
-use Rattle.codes.proofs.Solutions.{Solves, plus, sum-plus, xors-one}
+use Rattle.codes.proofs.Solutions.{Solves, plus, sum-plus}
 use Rattle.stripe.specs.Parts.{part}
 
 -- x in cell c, and 0 elsewhere

@@ -28,9 +28,9 @@ pub ⊕-self : (a : ℕ) → a ⊕ a ≡ 0
 unfolding _⊕_
 ⊕-self a = xor-self a
 
-pub ⊕-byte : (a b : ℕ) → a < 256 → b < 256 → a ⊕ b < 256
+pub ⊕-bits : (k a b : ℕ) → a < 2 ^ k → b < 2 ^ k → a ⊕ b < 2 ^ k
 unfolding _⊕_
-⊕-byte a b la lb = xor-lt 8 a b la lb
+⊕-bits k a b la lb = xor-lt k a b la lb
 
 -- ---- associativity, by the last binary digit
 
@@ -87,6 +87,13 @@ pub ⊕-equal : (a b : ℕ) → a ⊕ b ≡ 0 → a ≡ b
 
 pub equal-⊕ : (a b : ℕ) → a ≡ b → a ⊕ b ≡ 0
 equal-⊕ a b e = ap (λ (x : ℕ). x ⊕ b) e ∙ ⊕-self b
+
+-- (a XOR b) XOR (c XOR d), with b and c changed over
+pub swap-middle : (a b c d : ℕ) → (a ⊕ b) ⊕ (c ⊕ d) ≡ (a ⊕ c) ⊕ (b ⊕ d)
+swap-middle a b c d =
+    ⊕-assoc a b (c ⊕ d)
+    ∙ ap (λ (x : ℕ). a ⊕ x) (sym (⊕-assoc b c d) ∙ ap (λ (x : ℕ). x ⊕ d) (⊕-comm b c) ∙ ⊕-assoc c b d)
+    ∙ sym (⊕-assoc a c (b ⊕ d))
 
 -- ---- bits gathered by the code's `|`: none is set only where none was
 

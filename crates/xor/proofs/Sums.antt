@@ -2,14 +2,15 @@
 use mathlib.Core.Path.{_≡_, refl, sym, ap, ap₂, _∙_}
 use mathlib.Core.Logic.{_≢_}
 use mathlib.Core.Bool.{Bool, true, false, cond, not, _&&_}
-use Prim.Native.Nat.{ℕ, zero, suc, _+_, _<_}
+use Prim.Native.Nat.{ℕ, zero, suc, _+_, _^_, _<_}
 use native.Mathlib.Numerals.{add-one}
 use native.Mathlib.Omega.{arith}
+use lib.Pow.{pow-pos}
 use lib.Dec.{eqb}
 use borrow.Author.Tests.{eq-eqb, ne-eqb}
 use Rattle.xor.specs.Xor.{_⊕_, xors}
 use Rattle.xor.proofs.Cases.{by-test, by-equal, clash, and-left, and-right, not-passed}
-use Rattle.xor.proofs.Algebra.{zero-⊕, ⊕-zero, ⊕-comm, ⊕-assoc, ⊕-byte}
+use Rattle.xor.proofs.Algebra.{zero-⊕, ⊕-zero, ⊕-comm, ⊕-assoc, ⊕-bits, swap-middle}
 
 -- one number more
 pub xors-more : (n : ℕ) (f : ℕ → ℕ) → xors (n + 1) f ≡ xors n f ⊕ f n
@@ -26,16 +27,31 @@ unfolding xors
 xors-same zero f g h = refl
 xors-same (suc n) f g h = ap₂ _⊕_ (xors-same n f g (λ k l. h k (omega arith))) (h n (omega arith))
 
--- the sum of bytes is a byte
-pub xors-byte : (n : ℕ) (f : ℕ → ℕ) → ((k : ℕ) → k < n → f k < 256) → xors n f < 256
+-- numbers of b bits have a sum of b bits
+pub xors-bits : (b n : ℕ) (f : ℕ → ℕ) → ((k : ℕ) → k < n → f k < 2 ^ b) → xors n f < 2 ^ b
 unfolding xors
-xors-byte zero f h = omega arith
-xors-byte (suc n) f h = ⊕-byte (xors n f) (f n) (xors-byte n f (λ k l. h k (omega arith))) (h n (omega arith))
+xors-bits b zero f h = pow-pos b
+xors-bits b (suc n) f h = ⊕-bits b (xors n f) (f n) (xors-bits b n f (λ k l. h k (omega arith))) (h n (omega arith))
 
 pub xors-zero : (n : ℕ) (f : ℕ → ℕ) → ((k : ℕ) → k < n → f k ≡ 0) → xors n f ≡ 0
 unfolding xors
 xors-zero zero f h = refl
 xors-zero (suc n) f h = ap₂ _⊕_ (xors-zero n f (λ k l. h k (omega arith))) (h n (omega arith)) ∙ zero-⊕ 0
+
+-- a sum in which all but one are 0
+pub xors-one : (n : ℕ) (f : ℕ → ℕ) (d : ℕ) → d < n → ((k : ℕ) → k < n → k ≢ d → f k ≡ 0) → xors n f ≡ f d
+unfolding xors
+xors-one zero f d l h = absurd (omega arith)
+xors-one (suc n) f d l h =
+    by-equal d n
+    (λ e. ap₂ _⊕_ (xors-zero n f (λ k lk. h k (omega arith) (λ q. omega arith))) (ap f (sym e)) ∙ zero-⊕ (f d))
+    (λ e. ap₂ _⊕_ (xors-one n f d (omega arith) (λ k lk. h k (omega arith))) (h n (omega arith) (λ q. e (sym q))) ∙ ⊕-zero (f d))
+
+-- sums are added number by number
+pub xors-plus : (n : ℕ) (f g : ℕ → ℕ) → xors n (λ k. f k ⊕ g k) ≡ xors n f ⊕ xors n g
+unfolding xors
+xors-plus zero f g = sym (zero-⊕ 0)
+xors-plus (suc n) f g = ap (λ (x : ℕ). x ⊕ (f n ⊕ g n)) (xors-plus n f g) ∙ swap-middle (xors n f) (xors n g) (f n) (g n)
 
 -- ---- sums over the numbers that pass a test
 
