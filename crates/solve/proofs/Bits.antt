@@ -31,24 +31,22 @@ bit-next k m = ap (λ (x : ℕ). eqb (x % 2) 1) (ap (λ (x : ℕ). m / 2 ^ x) (s
 
 -- ---- the code's operations
 
+-- what holds of the four pairs of digits holds of any two
+two-digits : (P : ℕ → ℕ → Type 0) → P 0 0 → P 0 1 → P 1 0 → P 1 1 → (x y : ℕ) → x < 2 → y < 2 → P x y
+two-digits P a b c d zero zero lx ly = a
+two-digits P a b c d zero (suc zero) lx ly = b
+two-digits P a b c d (suc zero) zero lx ly = c
+two-digits P a b c d (suc zero) (suc zero) lx ly = d
+two-digits P a b c d zero (suc (suc y)) lx ly = absurd (omega arith)
+two-digits P a b c d (suc zero) (suc (suc y)) lx ly = absurd (omega arith)
+two-digits P a b c d (suc (suc x)) y lx ly = absurd (omega arith)
+
 xor-digits : (x y : ℕ) → x < 2 → y < 2 → eqb (bitXor x y) 1 ≡ xor (eqb x 1) (eqb y 1)
 unfolding xor
-xor-digits zero zero lx ly = refl
-xor-digits zero (suc zero) lx ly = refl
-xor-digits (suc zero) zero lx ly = refl
-xor-digits (suc zero) (suc zero) lx ly = refl
-xor-digits zero (suc (suc y)) lx ly = absurd (omega arith)
-xor-digits (suc zero) (suc (suc y)) lx ly = absurd (omega arith)
-xor-digits (suc (suc x)) y lx ly = absurd (omega arith)
+xor-digits = two-digits (λ x y. eqb (bitXor x y) 1 ≡ xor (eqb x 1) (eqb y 1)) refl refl refl refl
 
 and-digits : (x y : ℕ) → x < 2 → y < 2 → eqb (bitAnd x y) 1 ≡ (eqb x 1 && eqb y 1)
-and-digits zero zero lx ly = refl
-and-digits zero (suc zero) lx ly = refl
-and-digits (suc zero) zero lx ly = refl
-and-digits (suc zero) (suc zero) lx ly = refl
-and-digits zero (suc (suc y)) lx ly = absurd (omega arith)
-and-digits (suc zero) (suc (suc y)) lx ly = absurd (omega arith)
-and-digits (suc (suc x)) y lx ly = absurd (omega arith)
+and-digits = two-digits (λ x y. eqb (bitAnd x y) 1 ≡ (eqb x 1 && eqb y 1)) refl refl refl refl
 
 pub bit-xor : (k a b : ℕ) → bit k (bitXor a b) ≡ xor (bit k a) (bit k b)
 unfolding bit
