@@ -4,17 +4,17 @@ use mathlib.Core.Logic.{_≢_, _⊎_, inl, inr, ⊎-elim}
 use mathlib.Core.List.{List}
 use mathlib.Core.Bool.{Bool, true, false}
 use Prim.Native.Nat.{ℕ, _+_, _-_, _≤_, _<_}
-use native.Mathlib.Nat.{add-assoc}
+use native.Mathlib.Nat.{add-assoc, zero-add}
 use native.Mathlib.Omega.{arith}
-use lib.ListN.{length, getD, set, length-set, replicate, getD-replicate}
-use lib.Seq.{getD-set-same, getD-set-other}
+use lib.ListN.{length, getD, set, take, length-set, replicate, getD-replicate}
+use lib.Seq.{getD-set-same, getD-set-other, length-take-le, getD-take}
 use lib.Bits.{bitXor, bitOr}
 use lib.Dec.{eqb}
 use borrow.Author.Tests.{eqb-true, eqb-false}
 use Rattle.xor.specs.Xor.{_⊕_, xors}
-use Rattle.xor.specs.Runs.{sumAt, changedBy, Inside, Apart, Beside, Added, Put, Says}
+use Rattle.xor.specs.Runs.{sumAt, changedBy, addedTo, Inside, Apart, Beside, Added, Put, Says, NonzeroAt}
 use Rattle.xor.proofs.Cases.{by-equal, by-less, clash}
-use Rattle.xor.proofs.Algebra.{⊕-is, zero-⊕, ⊕-zero, ⊕-assoc, ⊕-equal, equal-⊕, or-none-left, or-none-right}
+use Rattle.xor.proofs.Algebra.{⊕-is, zero-⊕, ⊕-zero, ⊕-comm, ⊕-assoc, ⊕-equal, equal-⊕, or-none-left, or-none-right}
 use Rattle.xor.proofs.Sums.{xors-more, xors-none, xors-same}
 
 -- ---- bytes XORed into a block
@@ -63,6 +63,43 @@ runs-more s places sum r r′ n at k h b =
 pub runs-all : (s places sum r : List ℕ) (n at k : ℕ) → k ≡ length places → Added sum n (λ i. sumTo s places k (at + i)) r → Added sum n (λ i. sumAt s places (at + i)) r
 unfolding sumAt
 runs-all s places sum r n at k e h = subst (λ (m : ℕ). Added sum n (λ i. sumTo s places m (at + i)) r) e h
+
+-- the first n of an array of places, lent on
+module _ (places : List ℕ) (n : ℕ) (few : n ≤ length places) where
+  pub first-long : length (take n places) ≡ n
+  first-long = length-take-le n places few
+
+  pub first-at : (k : ℕ) → k < length (take n places) → getD (take n places) k 0 ≡ getD places k 0
+  first-at k l = getD-take n places k 0 (omega (arith, first-long))
+
+  pub first-inside : (long m : ℕ) → ((k : ℕ) → k < n → getD places k 0 + m ≤ long) → Inside long (take n places) m
+  first-inside long m h = record { ends = λ k l. omega (arith, first-at k l, h k (omega (arith, first-long))) }
+
+  pub first-sum : (s : List ℕ) (t : ℕ) → sumAt s (take n places) t ≡ sumTo s places n t
+  unfolding sumAt
+  first-sum s t =
+      xors-same (length (take n places)) (λ k. getD s (getD (take n places) k 0 + t) 0) (λ k. getD s (getD places k 0 + t) 0) (λ k l. ap (λ (x : ℕ). getD s (x + t) 0) (first-at k l))
+      ∙ ap (λ (m : ℕ). sumTo s places m t) first-long
+
+-- the run at the last place, and then those at the others
+pub runs-last : (s places sum r r′ : List ℕ) (n at k : ℕ) → k + 1 ≡ length places → Added sum n (λ i. getD s (getD places k 0 + at + i) 0) r
+    → Added r n (λ i. sumAt s (take k places) (at + i)) r′ → Added sum n (λ i. sumAt s places (at + i)) r′
+unfolding sumAt
+runs-last s places sum r r′ n at k e h b =
+    added-twice sum r r′ n (λ i. getD s (getD places k 0 + at + i) 0) (λ i. sumAt s (take k places) (at + i)) (λ i. sumAt s places (at + i)) h b
+    (λ i l. ⊕-comm (getD s (getD places k 0 + at + i) 0) (sumAt s (take k places) (at + i))
+    ∙ ap₂ _⊕_ (first-sum places k (omega arith) s (at + i)) (ap (λ (x : ℕ). getD s x 0) (add-assoc (getD places k 0) at i))
+    ∙ sym (xors-more k (λ j. getD s (getD places j 0 + (at + i)) 0)) ∙ ap (λ (m : ℕ). sumTo s places m (at + i)) e)
+
+-- one byte alone of the XOR of the runs
+
+pub byte-more : (s places : List ℕ) (k t sum : ℕ) → sum ≡ sumTo s places k t → bitXor sum (getD s (getD places k 0 + t) 0) ≡ sumTo s places (k + 1) t
+byte-more s places k t sum e =
+    sym (⊕-is sum (getD s (getD places k 0 + t) 0)) ∙ ap (λ (x : ℕ). x ⊕ getD s (getD places k 0 + t) 0) e ∙ sym (xors-more k (λ j. getD s (getD places j 0 + t) 0))
+
+pub byte-all : (s places : List ℕ) (k t sum : ℕ) → k ≡ length places → sum ≡ sumTo s places k t → sum ≡ sumAt s places t
+unfolding sumAt
+byte-all s places k t sum e h = h ∙ ap (λ (m : ℕ). sumTo s places m t) e
 
 -- ---- bytes stored in a run
 
@@ -115,16 +152,49 @@ put-block s₀ s s′ places to n at m done h b a lo hi end =
     put-over s₀ s s′ to at m done (sumAt s₀ places) (λ t. sumAt s places (at + t)) h b
     (λ t l. sum-apart s₀ s places to done n (at + t) (sumAt s₀ places) h a (omega arith) (omega arith)) lo hi
 
+-- a block of a sum of another list's runs
+pub put-from : (d₀ d d′ s places : List ℕ) (to at next m done : ℕ) → Put d₀ to done (λ t. sumAt s places (at + t)) d → Put d (to + next) m (λ t. sumAt s places (at + next + t)) d′
+    → next ≤ done → done ≤ next + m → Put d₀ to (next + m) (λ t. sumAt s places (at + t)) d′
+put-from d₀ d d′ s places to at next m done h b =
+    put-over d₀ d d′ to next m done (λ t. sumAt s places (at + t)) (λ t. sumAt s places (at + next + t)) h b (λ t l. ap (sumAt s places) (add-assoc at next t))
+
+-- one block more, where x t is XORed into each byte t: bytes not reached yet are as they were
+put-next : (s₀ s s′ : List ℕ) (to done m : ℕ) (x g : ℕ → ℕ) → Put s₀ to done (λ t. getD s₀ (to + t) 0 ⊕ x t) s → Put s (to + done) m g s′
+    → ((t : ℕ) → t < m → g t ≡ getD s (to + (done + t)) 0 ⊕ x (done + t)) → Put s₀ to (done + m) (λ t. getD s₀ (to + t) 0 ⊕ x t) s′
+put-next s₀ s s′ to done m x g h b same =
+    put-over s₀ s s′ to done m done (λ t. getD s₀ (to + t) 0 ⊕ x t) g h b
+    (λ t l. same t l ∙ ap (λ (y : ℕ). y ⊕ x (done + t)) (h .outer (to + (done + t)) (inr (omega arith)))) (omega arith) (omega arith)
+
+-- no runs to XOR in
+pub put-no-runs : (d s places : List ℕ) (to at n : ℕ) → length places ≡ 0 → Put d to n (addedTo d to s places at) d
+unfolding addedTo sumAt
+put-no-runs d s places to at n none = record {
+  long = refl;
+  inner = λ t l. sym (⊕-zero (getD d (to + t) 0)) ∙ ap (λ (y : ℕ). getD d (to + t) 0 ⊕ y) (sym (nothing (λ k. getD s (getD places k 0 + (at + t)) 0)));
+  outer = λ i side. refl;
+}
+  where
+    nothing : (f : ℕ → ℕ) → xors (length places) f ≡ 0
+    nothing f = ap (λ (k : ℕ). xors k f) none ∙ xors-none f
+
+-- a block of a sum XORed into another list
+pub put-added : (d₀ d d′ s places : List ℕ) (to at done m : ℕ)
+    → Put d₀ to done (addedTo d₀ to s places at) d → Put d (to + done) m (addedTo d (to + done) s places (at + done)) d′
+    → Put d₀ to (done + m) (addedTo d₀ to s places at) d′
+unfolding addedTo
+put-added d₀ d d′ s places to at done m h b =
+    put-next d₀ d d′ to done m (λ t. sumAt s places (at + t)) (addedTo d (to + done) s places (at + done)) h b
+    (λ t l. ap₂ (λ (i k : ℕ). getD d i 0 ⊕ sumAt s places k) (add-assoc to done t) (add-assoc at done t))
+
 -- a block of a difference: the bytes that it is made of are as they were
 pub put-difference : (s₀ s s′ new : List ℕ) (to from n at m : ℕ)
     → Put s₀ to at (changedBy s₀ to from new) s → Put s (to + at) m (λ t. changedBy s to from new (at + t)) s′
     → Beside to from n → at + m ≤ n → Put s₀ to (at + m) (changedBy s₀ to from new) s′
 unfolding changedBy
 put-difference s₀ s s′ new to from n at m h b side end =
-    put-over s₀ s s′ to at m at (changedBy s₀ to from new) (λ t. changedBy s to from new (at + t)) h b
-    (λ t l. ap₂ (λ (x y : ℕ). x ⊕ (y ⊕ getD new (at + t) 0)) (h .outer (to + (at + t)) (inr (omega arith)))
+    put-next s₀ s s′ to at m (λ t. getD s₀ (from + t) 0 ⊕ getD new t 0) (λ t. changedBy s to from new (at + t)) h b
+    (λ t l. ap (λ (y : ℕ). getD s (to + (at + t)) 0 ⊕ (y ⊕ getD new (at + t) 0))
     (h .outer (from + (at + t)) (⊎-elim (λ w. inl (omega arith)) (λ w. inr (omega arith)) side)))
-    (omega arith) (omega arith)
 
 -- a block whose bytes are those of another
 pub put-same : (s s′ : List ℕ) (to n : ℕ) (f g : ℕ → ℕ) → Put s to n f s′ → ((t : ℕ) → t < n → f t ≡ g t) → Put s to n g s′
@@ -134,13 +204,17 @@ put-same s s′ to n f g h e = record { long = h .long; inner = λ t l. h .inner
 pub from-zero : (r : List ℕ) (n : ℕ) (f : ℕ → ℕ) → n ≤ 128 → Added (replicate 128 0) n f r → (t : ℕ) → t < n → getD r t 0 ≡ f t
 from-zero r n f ln h t l = h .inner t l ∙ ap (λ (x : ℕ). x ⊕ f t) (getD-replicate 128 t 0 0 (omega arith)) ∙ zero-⊕ (f t)
 
+-- two additions from zero
+pub added-both : (r₁ r₂ : List ℕ) (n : ℕ) (f g : ℕ → ℕ) → n ≤ 128 → Added (replicate 128 0) n f r₁ → Added r₁ n g r₂ → (t : ℕ) → t < n → getD r₂ t 0 ≡ f t ⊕ g t
+added-both r₁ r₂ n f g ln h₁ h₂ t l = h₂ .inner t l ∙ ap (λ (x : ℕ). x ⊕ g t) (from-zero r₁ n f ln h₁ t l)
+
 -- three additions from zero make a byte of a difference
 pub difference-block : (s new r₁ r₂ r₃ : List ℕ) (to from at n : ℕ) → n ≤ 128 → Added (replicate 128 0) n (λ i. getD s (to + at + i) 0) r₁
     → Added r₁ n (λ i. getD s (from + at + i) 0) r₂ → Added r₂ n (λ i. getD new (at + i) 0) r₃ → (t : ℕ) → t < n → getD r₃ t 0 ≡ changedBy s to from new (at + t)
 unfolding changedBy
 difference-block s new r₁ r₂ r₃ to from at n ln h₁ h₂ h₃ t l =
     h₃ .inner t l
-    ∙ ap (λ (x : ℕ). x ⊕ getD new (at + t) 0) (h₂ .inner t l ∙ ap (λ (x : ℕ). x ⊕ getD s (from + at + t) 0) (from-zero r₁ n (λ i. getD s (to + at + i) 0) ln h₁ t l))
+    ∙ ap (λ (x : ℕ). x ⊕ getD new (at + t) 0) (added-both r₁ r₂ n (λ i. getD s (to + at + i) 0) (λ i. getD s (from + at + i) 0) ln h₁ h₂ t l)
     ∙ ⊕-assoc (getD s (to + at + t) 0) (getD s (from + at + t) 0) (getD new (at + t) 0)
     ∙ ap₂ (λ (i k : ℕ). getD s i 0 ⊕ (getD s k 0 ⊕ getD new (at + t) 0)) (add-assoc to at t) (add-assoc from at t)
 
@@ -180,42 +254,60 @@ gathered-says m n r f h same = record {
 pub says-same : (A B : Type 0) (r : Bool) → (A → B) → (B → A) → Says A r → Says B r
 says-same A B r there back h = record { yes = λ e. there (h .yes e); no = λ e b. h .no e (back b) }
 
--- bytes whose XOR is 0 are equal, and the other way round
-pub says-equal : (n : ℕ) (f g : ℕ → ℕ) (sum : List ℕ) (r : Bool) → ((t : ℕ) → t < n → getD sum t 0 ≡ f t ⊕ g t)
-    → Says ((t : ℕ) → t < n → getD sum t 0 ≡ 0) r → Says ((t : ℕ) → t < n → f t ≡ g t) r
+-- numbers whose XOR is 0 are equal, and the other way round
+pub says-equal : (n : ℕ) (f g sum : ℕ → ℕ) (r : Bool) → ((t : ℕ) → t < n → sum t ≡ f t ⊕ g t) → Says ((t : ℕ) → t < n → sum t ≡ 0) r → Says ((t : ℕ) → t < n → f t ≡ g t) r
 says-equal n f g sum r e =
-    says-same ((t : ℕ) → t < n → getD sum t 0 ≡ 0) ((t : ℕ) → t < n → f t ≡ g t) r
+    says-same ((t : ℕ) → t < n → sum t ≡ 0) ((t : ℕ) → t < n → f t ≡ g t) r
     (λ z t l. ⊕-equal (f t) (g t) (sym (e t l) ∙ z t l)) (λ z t l. e t l ∙ equal-⊕ (f t) (g t) (z t l))
 
--- a block from `at` on, where the run is known up to `done`
-pub block-after : (f g : ℕ → ℕ) (at m done : ℕ) → at ≤ done → ((t : ℕ) → t < done → f t ≡ g t) → ((t : ℕ) → t < m → f (at + t) ≡ g (at + t)) → (t : ℕ) → t < at + m → f t ≡ g t
-block-after f g at m done lo before here t l =
-    by-less t at (λ w. before t (omega arith))
-    (λ w. let same : at + (t - at) ≡ t = omega arith in ap f (sym same) ∙ here (t - at) (omega arith) ∙ ap g same)
+-- equal numbers are zero together
+pub says-zero : (n : ℕ) (f g : ℕ → ℕ) (r : Bool) → ((t : ℕ) → t < n → f t ≡ g t) → Says ((t : ℕ) → t < n → f t ≡ 0) r → Says ((t : ℕ) → t < n → g t ≡ 0) r
+says-zero n f g r e =
+    says-same ((t : ℕ) → t < n → f t ≡ 0) ((t : ℕ) → t < n → g t ≡ 0) r (λ z t l. sym (e t l) ∙ z t l) (λ z t l. e t l ∙ z t l)
 
-module _ (s places : List ℕ) (to : ℕ) where
-  -- the run at `to` is the XOR of the runs at the places in its first n bytes, or in n bytes from `at` on
-  abbrev pub RunSum : ℕ → Type 0
-  RunSum n = (t : ℕ) → t < n → getD s (to + t) 0 ≡ sumAt s places t
+module _ (f : ℕ → ℕ) where
+  -- f is zero below n, or for n numbers from `at` on
+  abbrev pub Zero : ℕ → Type 0
+  Zero n = (t : ℕ) → t < n → f t ≡ 0
 
-  abbrev pub BlockSum : ℕ → ℕ → Type 0
-  BlockSum at n = (t : ℕ) → t < n → getD s (to + at + t) 0 ≡ sumAt s places (at + t)
+  abbrev pub ZeroFrom : ℕ → ℕ → Type 0
+  ZeroFrom at n = (t : ℕ) → t < n → f (at + t) ≡ 0
 
-  pub more-blocks : (at m done : ℕ) → at ≤ done → RunSum done → BlockSum at m → RunSum (at + m)
-  more-blocks at m done lo before here =
-      block-after (λ t. getD s (to + t) 0) (sumAt s places) at m done lo before (λ t l. ap (λ (i : ℕ). getD s i 0) (sym (add-assoc to at t)) ∙ here t l)
-
-  pub block-of : (n at m : ℕ) → at + m ≤ n → RunSum n → BlockSum at m
-  block-of n at m end all t l = ap (λ (i : ℕ). getD s i 0) (add-assoc to at t) ∙ all (at + t) (omega arith)
+  -- a block from `at` on, where f is zero up to `done`
+  pub zero-more : (at m done : ℕ) → at ≤ done → Zero done → ZeroFrom at m → Zero (at + m)
+  zero-more at m done lo before here t l =
+      by-less t at (λ w. before t (omega arith)) (λ w. let same : at + (t - at) ≡ t = omega arith in ap f (sym same) ∙ here (t - at) (omega arith))
 
   -- one block is the whole run
-  pub one-block : (n : ℕ) (r : Bool) → Says (BlockSum 0 n) r → Says (RunSum n) r
-  one-block n r =
-      says-same (BlockSum 0 n) (RunSum n) r (λ h t l. more-blocks 0 n 0 (omega arith) (λ k lk. absurd (omega arith)) h t (omega arith)) (block-of n 0 n (omega arith))
+  pub zero-whole : (n : ℕ) (r : Bool) → Says (ZeroFrom 0 n) r → Says (Zero n) r
+  zero-whole n r = says-zero n (λ t. f (0 + t)) f r (λ t l. ap f (zero-add t))
 
-  -- a block that is not the sum, or no such block
-  pub some-block : (n at m : ℕ) (r : Bool) → at + m ≤ n → Says (BlockSum at m) r → r ≡ false → Says (RunSum n) false
-  some-block n at m r end h e = record { yes = λ z. clash z refl; no = λ z all. h .no e (block-of n at m end all) }
+  -- a block that is not zero, or no such block
+  pub zero-not : (n at m : ℕ) (r : Bool) → at + m ≤ n → Says (ZeroFrom at m) r → r ≡ false → Says (Zero n) false
+  zero-not n at m r end h e = record { yes = λ z. clash z refl; no = λ z all. h .no e (λ t l. all (at + t) (omega arith)) }
 
-  pub all-blocks : (n : ℕ) → RunSum n → Says (RunSum n) true
-  all-blocks n h = record { yes = λ z. h; no = λ z all. clash refl z }
+  pub zero-all : (n : ℕ) → Zero n → Says (Zero n) true
+  zero-all n h = record { yes = λ z. h; no = λ z all. clash refl z }
+
+  -- ---- a number that is not zero
+
+  pub zero-next : (n : ℕ) → Zero n → f n ≡ 0 → Zero (n + 1)
+  zero-next n before here t l = by-equal t n (λ e. ap f e ∙ here) (λ e. before t (omega arith))
+
+  pub nonzero-none : (n : ℕ) → Zero n → NonzeroAt f n n
+  nonzero-none n z = record { most = omega arith; some = λ l. absurd (omega arith); none = λ l. z }
+
+  pub nonzero-here : (n r : ℕ) → r < n → f r ≢ 0 → NonzeroAt f n r
+  nonzero-here n r l h = record { most = omega arith; some = λ k. h; none = λ k. absurd (omega arith) }
+
+  -- f is zero up to `done`, and looked at from there on
+  pub nonzero-after : (done m n r : ℕ) → done + m ≡ n → Zero done → NonzeroAt (λ t. f (done + t)) m r → NonzeroAt f n (done + r)
+  nonzero-after done m n r e before h = record {
+    most = let most = h .most in omega arith;
+    some = λ l. h .some (omega arith);
+    none = λ l t lt. zero-more done m done (omega arith) before (h .none (omega arith)) t (omega arith);
+  }
+
+-- equal numbers are zero in the same places
+pub nonzero-same : (n r : ℕ) (f g : ℕ → ℕ) → ((t : ℕ) → t < n → f t ≡ g t) → NonzeroAt f n r → NonzeroAt g n r
+nonzero-same n r f g e h = record { most = h .most; some = λ l z. h .some l (e r l ∙ z); none = λ l t lt. sym (e t lt) ∙ h .none l t lt }

@@ -81,6 +81,14 @@ unfolding count
 count-never zero test h = refl
 count-never (suc n) test h = ap₂ (λ (x : ℕ) (b : Bool). x + cond b 1 0) (count-never n test (λ k l. h k (omega arith))) (h n (omega arith))
 
+-- none are counted: each fails
+pub count-zero : (n : ℕ) (test : ℕ → Bool) → count n test ≡ 0 → (k : ℕ) → k < n → test k ≡ false
+unfolding count
+count-zero zero test h k l = absurd (omega arith)
+count-zero (suc n) test h k l =
+    by-test (test n) (λ p. absurd (let more : count n test + 1 ≡ 0 = sym (ap (λ (b : Bool). count n test + cond b 1 0) p) ∙ h in omega arith))
+    (λ p. by-equal k n (λ e. ap test e ∙ p) (λ e. count-zero n test (omega (arith, h)) k (omega arith)))
+
 -- one more member
 pub count-insert : (n : ℕ) (test : ℕ → Bool) (a : ℕ) → a < n → test a ≡ false → count n (λ k. eqb k a || test k) ≡ 1 + count n test
 unfolding count

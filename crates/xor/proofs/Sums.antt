@@ -56,7 +56,7 @@ xors-plus (suc n) f g = ap (λ (x : ℕ). x ⊕ (f n ⊕ g n)) (xors-plus n f g)
 -- ---- sums over the numbers that pass a test
 
 -- the numbers that pass a test, without d
-abbrev without : ℕ → (ℕ → Bool) → ℕ → Bool
+abbrev pub without : ℕ → (ℕ → Bool) → ℕ → Bool
 without d e c = e c && not (eqb c d)
 
 without-same : (d : ℕ) (e : ℕ → Bool) → without d e d ≡ false
@@ -66,7 +66,7 @@ without-other : (d : ℕ) (e : ℕ → Bool) (c : ℕ) → c ≢ d → without d
 without-other d e c n = by-test (e c) (λ h. rw (h, ne-eqb c d n) refl) (λ h. rw h refl)
 
 -- one number that passes is set apart
-set-apart : (n : ℕ) (e : ℕ → Bool) (f : ℕ → ℕ) (d : ℕ) → d < n → e d ≡ true
+pub set-apart : (n : ℕ) (e : ℕ → Bool) (f : ℕ → ℕ) (d : ℕ) → d < n → e d ≡ true
     → xors n (λ c. cond (e c) (f c) 0) ≡ xors n (λ c. cond (without d e c) (f c) 0) ⊕ f d
 unfolding xors
 set-apart zero e f d l h = absurd (omega arith)

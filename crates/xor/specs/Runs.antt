@@ -1,6 +1,6 @@
 -- Runs of bytes in a slice: a run is given by the place of its first byte.
 use mathlib.Core.Path.{_≡_}
-use mathlib.Core.Logic.{_⊎_}
+use mathlib.Core.Logic.{_≢_, _⊎_}
 use mathlib.Core.List.{List}
 use mathlib.Core.Bool.{Bool, true, false}
 use Prim.Native.Nat.{ℕ, _+_, _≤_, _<_}
@@ -14,6 +14,14 @@ sumAt s places t = xors (length places) (λ k. getD s (getD places k 0 + t) 0)
 -- byte t of the run at `to`, with the difference of the run at `from` and of the new bytes XORed in
 unfoldable pub changedBy : List ℕ → ℕ → ℕ → List ℕ → ℕ → ℕ
 changedBy s to from new t = getD s (to + t) 0 ⊕ (getD s (from + t) 0 ⊕ getD new t 0)
+
+-- byte t of the run of d at `to`, with the bytes of s at + t past each place XORed in
+unfoldable pub addedTo : List ℕ → ℕ → List ℕ → List ℕ → ℕ → ℕ → ℕ
+addedTo d to s places at t = getD d (to + t) 0 ⊕ sumAt s places (at + t)
+
+-- the XOR of byte t of the run at `to` and of the runs at the places
+unfoldable pub withOwn : List ℕ → List ℕ → ℕ → ℕ → ℕ
+withOwn s places to t = getD s (to + t) 0 ⊕ sumAt s places t
 
 -- every run of n bytes lies inside
 pub record Inside (long : ℕ) (places : List ℕ) (n : ℕ) : Type 0 where
@@ -43,3 +51,9 @@ pub record Put (s : List ℕ) (to n : ℕ) (f : ℕ → ℕ) (s′ : List ℕ) :
 pub record Says (fact : Type 0) (r : Bool) : Type 0 where
   pub yes : r ≡ true → fact
   pub no : r ≡ false → fact → ⊥
+
+-- r is below n and f is not zero at it, or r is n and f is zero below n
+pub record NonzeroAt (f : ℕ → ℕ) (n r : ℕ) : Type 0 where
+  pub most : r ≤ n
+  pub some : r < n → f r ≢ 0
+  pub none : n ≤ r → (t : ℕ) → t < n → f t ≡ 0

@@ -1,10 +1,10 @@
-// XOR of runs of bytes inside one slice: what nearly all the work on a stripe is made of.
+// XOR of runs of bytes in slices: what nearly all the work on a stripe is made of.
 // A run is summed a block of 128 bytes at a time, since that many stay in registers.
 ghost use mathlib.Core.Path.{_≡_};
 ghost use mathlib.Core.Bool.{true, false};
-ghost use Prim.Native.Nat.{ℕ, _+_, _≤_, _<_};
+ghost use Prim.Native.Nat.{ℕ, _+_, _^_, _≤_, _<_};
 ghost use lib.ListN.{length, getD};
-ghost use Rattle.xor.specs.Runs.{sumAt, changedBy, Inside, Apart, Beside, Added, Put, Says};
+ghost use Rattle.xor.specs.Runs.{sumAt, withOwn, changedBy, addedTo, Inside, Apart, Beside, Added, Put, Says, NonzeroAt};
 
 // The block `sum` with n bytes of s, from `at` on, XORed in.
 fn add_bytes(sum: [u8; 128], s: &[u8], at: usize, n: usize) -> [u8; 128]
@@ -33,6 +33,20 @@ fn add_runs(sum: [u8; 128], s: &[u8], places: &[usize], at: usize, n: usize) -> 
         k += 1;
     }
     added
+}
+
+// A block with n bytes from `at` on of the XOR of the runs at the places. It starts from the last run, which saves XORing it into zeros.
+fn sum_runs(s: &[u8], places: &[usize], at: usize, n: usize) -> [u8; 128]
+    requires { ⌜ (n ≤ 128) × Inside (length (now s)) (now places) (at + n) ⌝ }
+    ensures { λ r. ⌜ ((i : ℕ) → i < n → getD r i 0 ≡ sumAt (now (s .entry)) (now (places .entry)) (at + i)) ⌝ }
+{
+    let count = places.len();
+    if count == 0 {
+        return [0u8; 128];
+    }
+    let last = count - 1;
+    let own = add_bytes([0u8; 128], s, places[last] + at, n);
+    add_runs(own, s, &places[..last], at, n)
 }
 
 // Stores n bytes of a block in s, from `at` on.
@@ -95,10 +109,10 @@ pub fn put_sum(s: &mut [u8], places: &[usize], to: usize, n: usize)
     }
 }
 
-// Whether n bytes of the run at `to`, from `at` on, are the XOR of the runs at the places.
-fn is_block_sum(s: &[u8], places: &[usize], to: usize, at: usize, n: usize) -> bool
+// Whether n bytes of the XOR of the run at `to` and of the runs at the places, from `at` on, are all zero.
+fn is_sum_block(s: &[u8], places: &[usize], to: usize, at: usize, n: usize) -> bool
     requires { ⌜ (n ≤ 128) × Inside (length (now s)) (now places) (at + n) × (to + at + n ≤ length (now s)) ⌝ }
-    ensures { λ r. ⌜ Says ((t : ℕ) → t < n → getD (now (s .entry)) (to + at + t) 0 ≡ sumAt (now (s .entry)) (now (places .entry)) (at + t)) r ⌝ }
+    ensures { λ r. ⌜ Says ((t : ℕ) → t < n → withOwn (now (s .entry)) (now (places .entry)) to (at + t) ≡ 0) r ⌝ }
 {
     let own = add_bytes([0u8; 128], s, to + at, n);
     let sum = add_runs(own, s, places, at, n);
@@ -108,20 +122,159 @@ fn is_block_sum(s: &[u8], places: &[usize], to: usize, at: usize, n: usize) -> b
 // Whether the run of n bytes at `to` is the XOR of the runs at the places. It stops at the first block that is not.
 pub fn is_sum(s: &[u8], places: &[usize], to: usize, n: usize) -> bool
     requires { ⌜ Inside (length (now s)) (now places) n × (to + n ≤ length (now s)) ⌝ }
-    ensures { λ r. ⌜ Says ((t : ℕ) → t < n → getD (now (s .entry)) (to + t) 0 ≡ sumAt (now (s .entry)) (now (places .entry)) t) r ⌝ }
+    ensures { λ r. ⌜ Says ((t : ℕ) → t < n → withOwn (now (s .entry)) (now (places .entry)) to t ≡ 0) r ⌝ }
 {
     if n < 128 {
-        return is_block_sum(s, places, to, 0, n);
+        return is_sum_block(s, places, to, 0, n);
     }
     let mut done = 0;
     while done < n {
         let at = block_at(done, n);
-        if !is_block_sum(s, places, to, at, 128) {
+        if !is_sum_block(s, places, to, at, 128) {
             return false;
         }
         done = at + 128;
     }
     true
+}
+
+// Whether n bytes of the XOR of the runs at the places, from `at` on, are all zero.
+fn is_zero_block(s: &[u8], places: &[usize], at: usize, n: usize) -> bool
+    requires { ⌜ (n ≤ 128) × Inside (length (now s)) (now places) (at + n) ⌝ }
+    ensures { λ r. ⌜ Says ((t : ℕ) → t < n → sumAt (now (s .entry)) (now (places .entry)) (at + t) ≡ 0) r ⌝ }
+{
+    let sum = sum_runs(s, places, at, n);
+    all_zero(sum, n)
+}
+
+// Whether the XOR of the runs of n bytes at the places is zero in every byte. It stops at the first block that is not.
+pub fn sums_to_zero(s: &[u8], places: &[usize], n: usize) -> bool
+    requires { ⌜ Inside (length (now s)) (now places) n ⌝ }
+    ensures { λ r. ⌜ Says ((t : ℕ) → t < n → sumAt (now (s .entry)) (now (places .entry)) t ≡ 0) r ⌝ }
+{
+    if n < 128 {
+        return is_zero_block(s, places, 0, n);
+    }
+    let mut done = 0;
+    while done < n {
+        let at = block_at(done, n);
+        if !is_zero_block(s, places, at, 128) {
+            return false;
+        }
+        done = at + 128;
+    }
+    true
+}
+
+// Sets n bytes of d at `to` to those from `at` on of the XOR of the runs of s at the places.
+fn put_block_from(d: &mut [u8], to: usize, s: &[u8], places: &[usize], at: usize, n: usize)
+    requires { ⌜ (n ≤ 128) × Inside (length (now s)) (now places) (at + n) × (to + n ≤ length (now d)) ⌝ }
+    ensures { λ _. ⌜ Put (now (d .entry)) to n (λ t. sumAt (now (s .entry)) (now (places .entry)) (at + t)) (now (d .exit)) ⌝ }
+{
+    let sum = sum_runs(s, places, at, n);
+    put_bytes(d, to, sum, n);
+}
+
+// Sets the run of n bytes of d at `to` to those from `at` on of the XOR of the runs of s at the places.
+pub fn put_sum_from(d: &mut [u8], to: usize, s: &[u8], places: &[usize], at: usize, n: usize)
+    requires { ⌜ Inside (length (now s)) (now places) (at + n) × (to + n ≤ length (now d)) × (at + n < 2 ^ 64) ⌝ }
+    ensures { λ _. ⌜ Put (now (d .entry)) to n (λ t. sumAt (now (s .entry)) (now (places .entry)) (at + t)) (now (d .exit)) ⌝ }
+{
+    if n < 128 {
+        put_block_from(d, to, s, places, at, n);
+        return;
+    }
+    let mut done = 0;
+    while done < n {
+        let next = block_at(done, n);
+        put_block_from(d, to + next, s, places, at + next, 128);
+        done = next + 128;
+    }
+}
+
+// Byte t of the XOR of the runs at the places.
+pub fn sum_byte(s: &[u8], places: &[usize], t: usize) -> u8
+    requires { ⌜ Inside (length (now s)) (now places) (t + 1) ⌝ }
+    ensures { λ r. ⌜ r ≡ sumAt (now (s .entry)) (now (places .entry)) t ⌝ }
+{
+    let mut sum = 0u8;
+    let mut k = 0;
+    while k < places.len() {
+        sum = sum ^ s[places[k] + t];
+        k += 1;
+    }
+    sum
+}
+
+// The first of n bytes of a block that is not zero; n where all are.
+fn nonzero_byte(block: [u8; 128], n: usize) -> usize
+    requires { ⌜ n ≤ 128 ⌝ }
+    ensures { λ r. ⌜ NonzeroAt (λ i. getD block i 0) n r ⌝ }
+{
+    let mut i = 0;
+    while i < n {
+        if block[i] != 0 {
+            return i;
+        }
+        i += 1;
+    }
+    n
+}
+
+// The first of n bytes of the XOR of the runs at the places, from `at` on, that is not zero; n where all are.
+fn nonzero_block(s: &[u8], places: &[usize], at: usize, n: usize) -> usize
+    requires { ⌜ (n ≤ 128) × Inside (length (now s)) (now places) (at + n) ⌝ }
+    ensures { λ r. ⌜ NonzeroAt (λ t. sumAt (now (s .entry)) (now (places .entry)) (at + t)) n r ⌝ }
+{
+    let sum = sum_runs(s, places, at, n);
+    if all_zero(sum, n) {
+        return n;
+    }
+    nonzero_byte(sum, n)
+}
+
+// The first byte below n in which the XOR of the runs at the places is not zero; n where there is none.
+pub fn nonzero_at(s: &[u8], places: &[usize], n: usize) -> usize
+    requires { ⌜ Inside (length (now s)) (now places) n ⌝ }
+    ensures { λ r. ⌜ NonzeroAt (sumAt (now (s .entry)) (now (places .entry))) n r ⌝ }
+{
+    let mut done = 0;
+    while 128 <= n - done {
+        let i = nonzero_block(s, places, done, 128);
+        if i < 128 {
+            return done + i;
+        }
+        done += 128;
+    }
+    done + nonzero_block(s, places, done, n - done)
+}
+
+// XORs into n bytes of d at `to` those from `at` on of the runs of s at the places.
+fn add_block_sum(d: &mut [u8], to: usize, s: &[u8], places: &[usize], at: usize, n: usize)
+    requires { ⌜ (n ≤ 128) × Inside (length (now s)) (now places) (at + n) × (to + n ≤ length (now d)) ⌝ }
+    ensures { λ _. ⌜ Put (now (d .entry)) to n (addedTo (now (d .entry)) to (now (s .entry)) (now (places .entry)) at) (now (d .exit)) ⌝ }
+{
+    let own = add_bytes([0u8; 128], d, to, n);
+    let sum = add_runs(own, s, places, at, n);
+    put_bytes(d, to, sum, n);
+}
+
+// XORs into the run of n bytes of d at `to` those from `at` on of the runs of s at the places.
+pub fn add_sum(d: &mut [u8], to: usize, s: &[u8], places: &[usize], at: usize, n: usize)
+    requires { ⌜ Inside (length (now s)) (now places) (at + n) × (to + n ≤ length (now d)) ⌝ }
+    ensures { λ _. ⌜ Put (now (d .entry)) to n (addedTo (now (d .entry)) to (now (s .entry)) (now (places .entry)) at) (now (d .exit)) ⌝ }
+{
+    if places.len() == 0 {
+        return;
+    }
+    let mut done = 0;
+    while 128 <= n - done {
+        add_block_sum(d, to + done, s, places, at + done, 128);
+        done += 128;
+    }
+    if done < n {
+        add_block_sum(d, to + done, s, places, at + done, n - done);
+    }
 }
 
 // XORs into n bytes of the run at `to`, from `at` on, how those of the run at `from` differ from the new ones.
