@@ -1,13 +1,13 @@
 -- Laws of the bits of a number: halving, the code's `^` and `&`, and its count of trailing zeros.
 use mathlib.Core.Path.{_≡_, refl, sym, ap, _∙_}
 use mathlib.Core.Logic.{_≢_}
-use mathlib.Core.Bool.{false, _&&_, xor}
+use mathlib.Core.Bool.{false, _&&_, _||_, xor}
 use Prim.Native.Nat.{ℕ, zero, suc, _-_, _/_, _%_, _^_, _<_}
 use native.Mathlib.Nat.{mod-lt, zero-lt-suc, pow-suc, div-one, mul-div-cancel, mul-mod-left, div-lt-iff-lt-mul}
 use native.Mathlib.Numerals.{one-add}
 use native.Mathlib.Omega.{arith}
 use lib.Arith.{lt-one}
-use lib.Bits.{bitXor, bitAnd, xor-shr, xor-mod, and-shr, and-mod}
+use lib.Bits.{bitXor, bitAnd, bitOr, xor-shr, xor-mod, and-shr, and-mod, or-shr, or-mod}
 use lib.Count.{trailingZeros, under}
 use lib.Dec.{eqb, ltb, eqb·suc-suc, leb·suc-suc}
 use lib.Pow.{pow-pos, shr-shr}
@@ -59,6 +59,15 @@ unfolding bit
 bit-and k a b =
     ap (λ (x : ℕ). eqb (x % 2) 1) (and-shr a b k) ∙ ap (λ (x : ℕ). eqb x 1) (and-mod (a / 2 ^ k) (b / 2 ^ k) 1)
     ∙ and-digits (a / 2 ^ k % 2) (b / 2 ^ k % 2) (digit (a / 2 ^ k)) (digit (b / 2 ^ k))
+
+or-digits : (x y : ℕ) → x < 2 → y < 2 → eqb (bitOr x y) 1 ≡ (eqb x 1 || eqb y 1)
+or-digits = two-digits (λ x y. eqb (bitOr x y) 1 ≡ (eqb x 1 || eqb y 1)) refl refl refl refl
+
+pub bit-or : (k a b : ℕ) → bit k (bitOr a b) ≡ (bit k a || bit k b)
+unfolding bit
+bit-or k a b =
+    ap (λ (x : ℕ). eqb (x % 2) 1) (or-shr a b k) ∙ ap (λ (x : ℕ). eqb x 1) (or-mod (a / 2 ^ k) (b / 2 ^ k) 1)
+    ∙ or-digits (a / 2 ^ k % 2) (b / 2 ^ k % 2) (digit (a / 2 ^ k)) (digit (b / 2 ^ k))
 
 -- ---- the empty set, and the sets of one member
 

@@ -1,20 +1,21 @@
 -- The loop over the lost cells: what the masks are at each, and one turn, on every problem with the first masks.
 use mathlib.Core.Path.{_≡_, refl, sym, ap, _∙_, subst}
-use mathlib.Core.Bool.{Bool, true, false, cond, not}
+use mathlib.Core.Bool.{Bool, true, false, not, _&&_}
 use mathlib.Core.List.{List}
 use Prim.Native.Nat.{ℕ, suc, _+_, _-_, _^_, _≤_, _<_}
 use native.Mathlib.Omega.{arith}
-use lib.Bits.{bitXor, bitAnd}
+use lib.Bits.{bitXor}
 use lib.ListN.{length, getD, set, length-set}
 use lib.Seq.{getD-set-same, getD-set-other}
-use borrow.Author.Tests.{not-true}
+use borrow.Author.Tests.{ne-eqb, lt-ltb, not-true}
 use Rattle.xor.proofs.Cases.{by-equal, by-less, and-left, and-right, not-passed, clash}
 use Rattle.solve.specs.Bit.{bit, IsLowest}
 use Rattle.solve.specs.Method.{State, start, free, choose, passed, stopped, run}
-use Rattle.solve.specs.Masked.{Holders, Sources, Swept, Spread, Own, Lists, Problem, outcome, Masked, Eliminates}
+use Rattle.solve.specs.Masked.{Sources, startsAt, Holding, Spread, Own, Lists, Problem, outcome, Masked, Eliminates}
 use Rattle.solve.proofs.Invariant.{chosen-here, chosen-before}
+use Rattle.solve.proofs.Run.{Passed, Reached, run-reached}
 use Rattle.solve.proofs.Steps.{run-starts, run-chooses, run-stops, run-skips, run-stays}
-use Rattle.solve.proofs.StateMasks.{sources-start, unused-start, free-lowest, free-none, joins-bit, holders-next, sources-next, unused-next}
+use Rattle.solve.proofs.StateMasks.{sources-start, unused-start, free-lowest, free-none, bit-after, sources-next, unused-next}
 
 -- ---- the cells between two lost ones
 module _ (n : ℕ) (lost : ℕ → Bool) (u : ℕ) (cell : ℕ → ℕ) (h : Lists n lost u cell) where
@@ -37,13 +38,21 @@ module _ (n : ℕ) (lost : ℕ → Bool) (u : ℕ) (cell : ℕ → ℕ) (h : Lis
     comes-past : u ≤ k → c ≤ n → run E equation lost n ≡ passed s
     comes-past l le = run-skips E equation lost c n s le (λ d lo hi. not-lost k d hi (λ j lj. let low = after j lj in omega arith) (λ lk. absurd (omega arith))) at
 
+-- ---- the run at cell c: an unused equation holds no lost cell before it
+unused-clear : (E n : ℕ) (equation : ℕ → ℕ → Bool) (lost : ℕ → Bool) (c : ℕ) (s : State) → c ≤ n → run E equation lost c ≡ passed s
+    → (d : ℕ) → d < c → lost d ≡ true → (q : ℕ) → q < E → s .used q ≡ false → s .row q d ≡ false
+unused-clear E n equation lost c s l at d ld isLost q lq unused =
+    let reached : Passed E n equation lost c s = subst (Reached E n equation lost c) at (run-reached E n equation lost c l) in
+    let solved = reached .all d ld isLost in
+    reached .keeps .column d solved q lq ∙ ne-eqb q (s .chosen d) (λ same. clash (ap (s .used) same ∙ reached .keeps .taken d solved) unused)
+
 -- ---- the masks at lost cell number k of a problem
 
-pub record Stands (E u : ℕ) (first : List ℕ) (p : Problem E u first) (holders sources chosen : List ℕ) (unused k : ℕ) : Type 0 where
+pub record Stands (E u : ℕ) (first : List ℕ) (p : Problem E u first) (rows sources chosen : List ℕ) (unused k : ℕ) : Type 0 where
   pub s : State
   pub here : k < u → run E (p .equation) (p .lost) (p .cell k) ≡ passed s
   pub end : u ≤ k → outcome E u first p ≡ passed s
-  pub holds : (j : ℕ) → k ≤ j → j < u → Holders E s (p .cell j) (getD holders j 0)
+  pub row : (q : ℕ) → q < E → (j : ℕ) → j < u → bit j (getD rows q 0) ≡ s .row q (p .cell j)
   pub masked : Masked E k (p .cell) s sources chosen unused
 
 module _ (E u : ℕ) (first : List ℕ) (p : Problem E u first) where
@@ -52,7 +61,7 @@ module _ (E u : ℕ) (first : List ℕ) (p : Problem E u first) where
     s = s;
     here = λ l. comes-to (p .n) (p .lost) u (p .cell) (p .lists) E (p .equation) s 0 0 (λ j lj. absurd (omega arith)) at l (omega arith);
     end = λ l. comes-past (p .n) (p .lost) u (p .cell) (p .lists) E (p .equation) s 0 0 (λ j lj. absurd (omega arith)) at l (omega arith);
-    holds = λ j lo hi. p .holders j hi;
+    row = p .rows;
     masked = record {
       choice = λ j lj. absurd (omega arith);
       source = λ q l. subst (Sources E s q) (sym (own .mask q l)) (sources-start E (p .equation) q l);
@@ -66,120 +75,121 @@ module _ (E u : ℕ) (first : List ℕ) (p : Problem E u first) where
       at : run E (p .equation) (p .lost) 0 ≡ passed s
       at = run-starts E (p .equation) (p .lost)
 
-  -- no unused equation holds the cell
-  stands-stops : (holders sources chosen : List ℕ) (unused k : ℕ) → k < u → bitAnd unused (getD holders k 0) ≡ 0
-      → Stands E u first p holders sources chosen unused k → (c : ℕ) × (s : State) × (outcome E u first p ≡ stopped c s)
-  stands-stops holders sources chosen unused k l none h =
-      let c = p .cell k in (
-        c,
-        h .s,
-        run-stays E (p .equation) (p .lost) (suc c) (p .n) c (h .s) (let inside = p .lists .inside k l in omega arith)
-            (run-stops E (p .equation) (p .lost) c (h .s) (p .lists .isLost k l) (free-none E (h .s) c unused (getD holders k 0) (h .masked .free) (h .holds k (omega arith) l) none) (h .here l)),
-      )
+  -- at lost cell number k: the unused equations hold no lost cell numbered below k
+  module _ (rows sources chosen : List ℕ) (unused k : ℕ) (few : E < 64) (lu : u ≤ 64) (lk : k < u) (h : Stands E u first p rows sources chosen unused k) where
+    abbrev s : State
+    s = h .s
 
-  -- equation q is the lowest one that does
-  stands-more : (holders sources chosen holders′ sources′ : List ℕ) (unused k q : ℕ) → E < 64 → u ≤ 64 → length chosen ≡ 64 → k < u → q < 64
-      → IsLowest 64 (λ b. bit b (bitAnd unused (getD holders k 0))) q
-      → Swept holders (k + 1) u q (bitXor (getD holders k 0) (2 ^ q)) holders′ → Spread sources (bitXor (getD holders k 0) (2 ^ q)) q sources′
-      → Stands E u first p holders sources chosen unused k → Stands E u first p holders′ sources′ (set chosen k q) (bitXor unused (2 ^ q)) (k + 1)
-  stands-more holders sources chosen holders′ sources′ unused k q few lu long lk lq lowest swept spread h = record {
-    s = s′;
-    here = λ l. comes-to (p .n) (p .lost) u (p .cell) (p .lists) E (p .equation) s′ (k + 1) (suc c) after at l (let next = p .lists .rising k (k + 1) (omega arith) l in omega arith);
-    end = λ l. comes-past (p .n) (p .lost) u (p .cell) (p .lists) E (p .equation) s′ (k + 1) (suc c) after at l (let inside = p .lists .inside k lk in omega arith);
-    holds = λ j lo hi. subst (Holders E s′ (p .cell j)) (sym (swept .mask j lo hi)) (holders-next E s c q m below held holds (p .cell j) (getD holders j 0) (h .holds j (omega arith) hi));
-    masked = record {
-      choice = λ j lj. by-equal j k
-          (λ same. ap (λ (i : ℕ). getD (set chosen k q) i 0) same ∙ getD-set-same chosen k q 0 (omega arith) ∙ sym (chosen-here E s c q (p .cell j) (ap (p .cell) same)))
-          (λ other. getD-set-other chosen k j q 0 other ∙ h .masked .choice j (omega arith)
-          ∙ sym (chosen-before E s c q (p .cell j) (λ same. let low = p .lists .rising j k (omega arith) lk in omega arith)));
-      source = λ r lr. subst (Sources E s′ r)
-          (ap (λ (b : Bool). cond b (bitXor (getD sources r 0) (getD sources q 0)) (getD sources r 0)) (sym (joins-bit E s c q m below held holds r lr)) ∙ sym (spread .mask r (omega arith)))
-          (sources-next E s c q m below held holds r (getD sources r 0) (getD sources q 0) (h .masked .source r lr) (h .masked .source q below));
-      free = unused-next E s c q m below held holds unused (h .masked .free) (not-true (s .used q) (and-left (not (s .used q)) (s .row q c) isFree));
-    };
-  }
-    where
-      m : ℕ
-      m = getD holders k 0
+    abbrev c : ℕ
+    c = p .cell k
 
-      s : State
-      s = h .s
+    clear : (r : ℕ) → r < E → s .used r ≡ false → (j : ℕ) → j < k → bit j (getD rows r 0) ≡ false
+    clear r lr free j lj =
+        h .row r lr j (omega arith)
+        ∙ unused-clear E (p .n) (p .equation) (p .lost) c s (let inside = p .lists .inside k lk in omega arith) (h .here lk) (p .cell j) (p .lists .rising j k lj lk) (p .lists .isLost j (omega arith)) r lr free
 
-      c : ℕ
-      c = p .cell k
+    -- there is no equation for it
+    stands-stops : IsLowest 64 (startsAt rows unused k) 64 → (c : ℕ) × (s : State) × (outcome E u first p ≡ stopped c s)
+    stands-stops none = (
+      c,
+      s,
+      run-stays E (p .equation) (p .lost) (suc c) (p .n) c s (let inside = p .lists .inside k lk in omega arith)
+          (run-stops E (p .equation) (p .lost) c s (p .lists .isLost k lk)
+          (free-none E s c k rows unused (omega arith) (omega arith) (h .masked .free) (λ r lr. h .row r lr k lk) clear none) (h .here lk)),
+    )
 
-      held : Holders E s c m
-      held = h .holds k (omega arith) lk
+    -- equation q is the lowest one
+    stands-more : (rows′ sources′ : List ℕ) (q m : ℕ) → length chosen ≡ 64 → q < 64 → IsLowest 64 (startsAt rows unused k) q → Holding E rows k m
+        → Spread rows (bitXor m (2 ^ q)) q rows′ → Spread sources (bitXor m (2 ^ q)) q sources′
+        → Stands E u first p rows′ sources′ (set chosen k q) (bitXor unused (2 ^ q)) (k + 1)
+    stands-more rows′ sources′ q m long lq lowest holding spreadRows spreadSources = record {
+      s = s′;
+      here = λ l. comes-to (p .n) (p .lost) u (p .cell) (p .lists) E (p .equation) s′ (k + 1) (suc c) after at l (let next = p .lists .rising k (k + 1) (omega arith) l in omega arith);
+      end = λ l. comes-past (p .n) (p .lost) u (p .cell) (p .lists) E (p .equation) s′ (k + 1) (suc c) after at l (let inside = p .lists .inside k lk in omega arith);
+      row = λ r lr j lj. ap (bit j) (spreadRows .mask r (omega arith))
+          ∙ bit-after E s c q m below held holds r lr j (getD rows r 0) (getD rows q 0) (s .row r (p .cell j)) (s .row q (p .cell j)) (h .row r lr j lj) (h .row q below j lj);
+      masked = record {
+        choice = λ j lj. by-equal j k
+            (λ same. ap (λ (i : ℕ). getD (set chosen k q) i 0) same ∙ getD-set-same chosen k q 0 (omega arith) ∙ sym (chosen-here E s c q (p .cell j) (ap (p .cell) same)))
+            (λ other. getD-set-other chosen k j q 0 other ∙ h .masked .choice j (omega arith)
+            ∙ sym (chosen-before E s c q (p .cell j) (λ same. let low = p .lists .rising j k (omega arith) lk in omega arith)));
+        source = λ r lr. subst (Sources E s′ r) (sym (spreadSources .mask r (omega arith)))
+            (sources-next E s c q m below held holds r lr (getD sources r 0) (getD sources q 0) (h .masked .source r lr) (h .masked .source q below));
+        free = unused-next E s c q m below held holds unused (h .masked .free) (not-true (s .used q) (and-left (not (s .used q)) (s .row q c) isFree));
+      };
+    }
+      where
+        held : (r : ℕ) → r < E → bit r m ≡ s .row r c
+        held r lr = holding .bits r ∙ ap (λ (b : Bool). b && bit k (getD rows r 0)) (lt-ltb r E lr) ∙ h .row r lr k lk
 
-      found : (q < E) × IsLowest E (free s c) q
-      found = free-lowest E s c unused m q (omega arith) (h .masked .free) held lq lowest
+        found : (q < E) × IsLowest E (free s c) q
+        found = free-lowest E s c k rows unused (omega arith) (omega arith) (h .masked .free) (λ r lr. h .row r lr k lk) clear q lq lowest
 
-      below : q < E
-      below = found .0
+        below : q < E
+        below = found .0
 
-      isFree : free s c q ≡ true
-      isFree = found .1 .passes below
+        isFree : free s c q ≡ true
+        isFree = found .1 .passes below
 
-      holds : s .row q c ≡ true
-      holds = and-right (not (s .used q)) (s .row q c) isFree
+        holds : s .row q c ≡ true
+        holds = and-right (not (s .used q)) (s .row q c) isFree
 
-      s′ : State
-      s′ = choose E s c q
+        s′ : State
+        s′ = choose E s c q
 
-      at : run E (p .equation) (p .lost) (suc c) ≡ passed s′
-      at = run-chooses E (p .equation) (p .lost) c q s (p .lists .isLost k lk) below (found .1) (h .here lk)
+        at : run E (p .equation) (p .lost) (suc c) ≡ passed s′
+        at = run-chooses E (p .equation) (p .lost) c q s (p .lists .isLost k lk) below (found .1) (h .here lk)
 
-      after : (j : ℕ) → j < k + 1 → p .cell j < suc c
-      after j lj = by-equal j k (λ same. omega (arith, ap (p .cell) same)) (λ other. let low = p .lists .rising j k (omega arith) lk in omega arith)
+        after : (j : ℕ) → j < k + 1 → p .cell j < suc c
+        after j lj = by-equal j k (λ same. omega (arith, ap (p .cell) same)) (λ other. let low = p .lists .rising j k (omega arith) lk in omega arith)
 
 -- ---- on every problem with the first masks
 
-pub record Sofar (E u : ℕ) (first holders sources chosen : List ℕ) (unused k : ℕ) : Type 0 where
+pub record Sofar (E u : ℕ) (first rows sources chosen : List ℕ) (unused k : ℕ) : Type 0 where
   pub low : k ≤ u
-  pub longHolders : length holders ≡ 64
+  pub longRows : length rows ≡ 64
   pub longSources : length sources ≡ 64
   pub longChosen : length chosen ≡ 64
-  pub stands : (p : Problem E u first) → Stands E u first p holders sources chosen unused k
+  pub stands : (p : Problem E u first) → Stands E u first p rows sources chosen unused k
 
 module _ (E u : ℕ) (first : List ℕ) where
   pub sofar-first : (sources chosen : List ℕ) (one : ℕ) → length first ≡ 64 → length chosen ≡ 64 → Own E sources → one ≡ 2 ^ E
       → Sofar E u first first sources chosen (one - 1) 0
-  sofar-first sources chosen one longHolders longChosen own e = record {
+  sofar-first sources chosen one longRows longChosen own e = record {
     low = omega arith;
-    longHolders = longHolders;
+    longRows = longRows;
     longSources = own .long;
     longChosen = longChosen;
     stands = λ p. subst (λ (x : ℕ). Stands E u first p first sources chosen (x - 1) 0) (sym e) (stands-first E u first p sources chosen own);
   }
 
-  pub sofar-more : (holders sources chosen holders′ sources′ : List ℕ) (unused k q one : ℕ) → E < 64 → u ≤ 64 → k < u → q < 64
-      → IsLowest 64 (λ b. bit b (bitAnd unused (getD holders k 0))) q → one ≡ 2 ^ q
-      → Swept holders (k + 1) u q (bitXor (getD holders k 0) one) holders′ → Spread sources (bitXor (getD holders k 0) one) q sources′
-      → Sofar E u first holders sources chosen unused k → Sofar E u first holders′ sources′ (set chosen k q) (bitXor unused one) (k + 1)
-  sofar-more holders sources chosen holders′ sources′ unused k q one few lu lk lq lowest e swept spread h = record {
+  pub sofar-more : (rows sources chosen rows′ sources′ : List ℕ) (unused k q one m : ℕ) → E < 64 → u ≤ 64 → k < u → q < 64
+      → IsLowest 64 (startsAt rows unused k) q → one ≡ 2 ^ q → Holding E rows k m
+      → Spread rows (bitXor m one) q rows′ → Spread sources (bitXor m one) q sources′
+      → Sofar E u first rows sources chosen unused k → Sofar E u first rows′ sources′ (set chosen k q) (bitXor unused one) (k + 1)
+  sofar-more rows sources chosen rows′ sources′ unused k q one m few lu lk lq lowest e holding spreadRows spreadSources h = record {
     low = omega arith;
-    longHolders = swept .long;
-    longSources = spread .long;
+    longRows = spreadRows .long;
+    longSources = spreadSources .long;
     longChosen = length-set chosen k q ∙ h .longChosen;
-    stands = λ p. subst (λ (x : ℕ). Stands E u first p holders′ sources′ (set chosen k q) (bitXor unused x) (k + 1)) (sym e)
-        (stands-more E u first p holders sources chosen holders′ sources′ unused k q few lu (h .longChosen) lk lq lowest
-        (subst (λ (x : ℕ). Swept holders (k + 1) u q (bitXor (getD holders k 0) x) holders′) e swept)
-        (subst (λ (x : ℕ). Spread sources (bitXor (getD holders k 0) x) q sources′) e spread)
-        (h .stands p));
+    stands = λ p. subst (λ (x : ℕ). Stands E u first p rows′ sources′ (set chosen k q) (bitXor unused x) (k + 1)) (sym e)
+        (stands-more E u first p rows sources chosen unused k few lu lk (h .stands p) rows′ sources′ q m (h .longChosen) lq lowest holding
+        (subst (λ (x : ℕ). Spread rows (bitXor m x) q rows′) e spreadRows)
+        (subst (λ (x : ℕ). Spread sources (bitXor m x) q sources′) e spreadSources));
   }
 
-  pub sofar-stops : (holders sources chosen : List ℕ) (unused k : ℕ) → k < u → bitAnd unused (getD holders k 0) ≡ 0
-      → Sofar E u first holders sources chosen unused k → Eliminates E u first sources chosen (record { determined = false; unused = unused })
-  sofar-stops holders sources chosen unused k l none h = record {
+  pub sofar-stops : (rows sources chosen : List ℕ) (unused k q : ℕ) → E < 64 → u ≤ 64 → k < u → q ≡ 64 → IsLowest 64 (startsAt rows unused k) q
+      → Sofar E u first rows sources chosen unused k → Eliminates E u first sources chosen (record { determined = false; unused = unused })
+  sofar-stops rows sources chosen unused k q few lu lk e none h = record {
     longSources = h .longSources;
     longChosen = h .longChosen;
-    passes = λ e. clash e refl;
-    stops = λ e p. stands-stops E u first p holders sources chosen unused k l none (h .stands p);
+    passes = λ t. clash t refl;
+    stops = λ t p. stands-stops E u first p rows sources chosen unused k few lu lk (h .stands p) (subst (IsLowest 64 (startsAt rows unused k)) e none);
   }
 
-  pub sofar-all : (holders sources chosen : List ℕ) (unused k : ℕ) → k ≡ u
-      → Sofar E u first holders sources chosen unused k → Eliminates E u first sources chosen (record { determined = true; unused = unused })
-  sofar-all holders sources chosen unused k e h = record {
+  pub sofar-all : (rows sources chosen : List ℕ) (unused k : ℕ) → k ≡ u
+      → Sofar E u first rows sources chosen unused k → Eliminates E u first sources chosen (record { determined = true; unused = unused })
+  sofar-all rows sources chosen unused k e h = record {
     longSources = h .longSources;
     longChosen = h .longChosen;
     passes = λ _ p. let at = h .stands p in (at .s, at .end (omega arith), subst (λ (n : ℕ). Masked E n (p .cell) (at .s) sources chosen unused) e (at .masked));

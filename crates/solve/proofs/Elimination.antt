@@ -8,13 +8,15 @@ use native.Mathlib.Omega.{arith}
 use lib.Dec.{eqb}
 use borrow.Author.Tests.{eq-eqb, ne-eqb}
 use Rattle.xor.proofs.Cases.{by-test, by-equal, clash, and-left, not-passed}
+use Rattle.xor.specs.Sets.{count}
 use Rattle.solve.specs.Solution.{over, Solution}
 use Rattle.solve.specs.Method.{State, Outcome, passed, stopped, run, stateOf}
 use Rattle.solve.specs.Verdict.{rebuilt, Consistent, Determined, Undetermined, Verdict}
 use Rattle.solve.proofs.Over.{over-zero}
 use Rattle.solve.proofs.Invariant.{Invariant}
 use Rattle.solve.proofs.Run.{Closed, Passed, Stopped, Reached, run-reached, run-keeps}
-use Rattle.solve.proofs.Solved.{rebuilt-agrees, rebuilt-bits, residue-is, lost-value, one-solution, solution-passes, rebuilt-solves}
+use Rattle.solve.proofs.Few.{passed-few}
+use Rattle.solve.proofs.Solved.{rebuilt-agrees, rebuilt-bits, residue-is, value-by-sums, zero-by-sums, lost-value, one-solution, solution-passes, rebuilt-solves}
 
 -- every cell is zero
 zero-solves : (E n : ℕ) (equation : ℕ → ℕ → Bool) → Solution E n equation (λ d. 0)
@@ -60,6 +62,8 @@ module _ (E n : ℕ) (equation : ℕ → ℕ → Bool) (lost : ℕ → Bool) whe
     solves = rebuilt-solves E n equation lost s (h .keeps) same;
     agrees = rebuilt-agrees E n equation lost s;
     bytes = rebuilt-bits E n equation lost s 8;
+    valueBySums = value-by-sums E n equation lost s (h .keeps) same;
+    zeroBySums = zero-by-sums E n equation lost s (h .keeps) same;
     below = λ c l e. h .keeps .below c (h .all c l e);
   }
     where
@@ -108,6 +112,14 @@ module _ (E n : ℕ) (equation : ℕ → ℕ → Bool) (lost : ℕ → Bool) whe
 
   pub stopped-at : (c : ℕ) (s : State) → run E equation lost n ≡ stopped c s → Undetermined E n equation lost c
   stopped-at c s e = subst (Verdict E n equation lost) e elimination
+
+  -- more lost cells than equations
+  pub too-many : E < count n lost → (c : ℕ) × Undetermined E n equation lost c
+  too-many more = by-outcome (run E equation lost n) refl
+    where
+      by-outcome : (o : Outcome) → run E equation lost n ≡ o → (c : ℕ) × Undetermined E n equation lost c
+      by-outcome (passed s) e = absurd (omega (arith, passed-few E equation lost n s e))
+      by-outcome (stopped c s) e = (c, stopped-at c s e)
 
   -- each equation, as the method leaves it, is the sum of the original ones that it names
   pub from-right : (f : ℕ → ℕ) (q : ℕ) → q < E

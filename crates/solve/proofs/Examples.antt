@@ -1,17 +1,17 @@
 -- The method worked out by hand on three equations: where it stops, which equations it chooses, and how many additions it makes.
 use mathlib.Core.Path.{_≡_, refl, sym, ap, _∙_}
-use mathlib.Core.Bool.{Bool, true, false, _&&_, _||_, not, xor, and-false}
+use mathlib.Core.Bool.{Bool, true, _&&_, _||_, not, xor, or-false}
 use mathlib.Core.List.{[], _∷_}
-use Prim.Native.Nat.{ℕ, zero, suc, _/_, _<_}
+use Prim.Native.Nat.{ℕ, zero, suc, _<_}
 use native.Mathlib.Omega.{arith}
 use lib.Dec.{eqb, ltb}
 use lib.ListN.{getD}
-use borrow.Author.Tests.{lt-ltb, le-ltb, ltb-true}
+use borrow.Author.Tests.{ne-eqb, lt-ltb, ltb-true}
 use Rattle.xor.specs.Sets.{count}
 use Rattle.solve.specs.Bit.{bit}
-use Rattle.solve.specs.Method.{start, Outcome, passed, stopped, run, lowest, stateOf}
-use Rattle.solve.specs.Masked.{Holders, Problem}
-use Rattle.solve.proofs.Bits.{bit-next, bit-zero}
+use Rattle.solve.specs.Method.{Outcome, passed, stopped, run, lowest, stateOf}
+use Rattle.solve.specs.Masked.{Problem}
+use Rattle.solve.proofs.Bits.{bit-power, bit-ones}
 
 -- the equations {0, 1}, {0, 1, 2} and {0, 3} on four cells
 abbrev pub three : ℕ → ℕ → Bool
@@ -47,33 +47,9 @@ pub three-lost : stoppedWith (run 3 three (λ c. ltb c 2 || eqb c 3) 4) 3 3 ≡ 
 unfolding run lowest count xor
 three-lost = refl
 
--- ---- the first of these problems in masks: all three equations hold cell 0, and the equations 0 and 1 hold cell 1
+-- ---- the first of these problems in masks: of the cells 0 and 1 the equations 0 and 1 hold both, and equation 2 holds cell 0
 
-above-two : (r m : ℕ) → m < 8 → bit (suc (suc (suc r))) m ≡ false
-above-two r m l =
-    bit-next (suc (suc r)) m ∙ bit-next (suc r) (m / 2) ∙ bit-next r (m / 2 / 2) ∙ ap (bit r) (let none : m / 2 / 2 / 2 ≡ 0 = omega arith in none) ∙ bit-zero r
-
-first-cell : Holders 3 (start three) 0 7
-unfolding bit
-first-cell = record { bits = bits }
-  where
-    bits : (r : ℕ) → bit r 7 ≡ (ltb r 3 && three r 0)
-    bits zero = refl
-    bits (suc zero) = refl
-    bits (suc (suc zero)) = refl
-    bits (suc (suc (suc r))) = above-two r 7 (omega arith) ∙ ap (λ (b : Bool). b && true) (sym (le-ltb (suc (suc (suc r))) 3 (omega arith)))
-
-second-cell : Holders 3 (start three) 1 3
-unfolding bit
-second-cell = record { bits = bits }
-  where
-    bits : (r : ℕ) → bit r 3 ≡ (ltb r 3 && three r 1)
-    bits zero = refl
-    bits (suc zero) = refl
-    bits (suc (suc zero)) = refl
-    bits (suc (suc (suc r))) = above-two r 3 (omega arith) ∙ sym (and-false (ltb (suc (suc (suc r))) 3))
-
-pub two-lost-masks : Problem 3 2 (7 ∷ 3 ∷ [])
+pub two-lost-masks : Problem 3 2 (3 ∷ 3 ∷ 1 ∷ [])
 two-lost-masks = record {
   n = 4;
   equation = three;
@@ -85,10 +61,11 @@ two-lost-masks = record {
     isLost = λ k l. lt-ltb k 2 l;
     all = λ c l t. (c, ltb-true c 2 t, refl);
   };
-  holders = holders;
+  rows = rows;
 }
   where
-    holders : (k : ℕ) → k < 2 → Holders 3 (start three) k (getD (7 ∷ 3 ∷ []) k 0)
-    holders zero l = first-cell
-    holders (suc zero) l = second-cell
-    holders (suc (suc k)) l = absurd (omega arith)
+    rows : (q : ℕ) → q < 3 → (k : ℕ) → k < 2 → bit k (getD (3 ∷ 3 ∷ 1 ∷ []) q 0) ≡ three q k
+    rows zero l k lk = bit-ones k 2
+    rows (suc zero) l k lk = bit-ones k 2 ∙ lt-ltb k 2 lk ∙ sym (lt-ltb k 3 (omega arith))
+    rows (suc (suc zero)) l k lk = bit-power k 0 ∙ sym (ap (_||_ (eqb k 0)) (ne-eqb k 3 (λ e. omega arith)) ∙ or-false (eqb k 0))
+    rows (suc (suc (suc q))) l k lk = absurd (omega arith)

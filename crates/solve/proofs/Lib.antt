@@ -5,6 +5,7 @@ pub mod Lowest
 pub mod Invariant
 pub mod Run
 pub mod Solved
+pub mod Few
 pub mod Elimination
 pub mod Additions
 pub mod Examples

@@ -1,8 +1,10 @@
 -- Laws of the lowest number that passes a test.
-use mathlib.Core.Path.{_≡_, sym, _∙_}
+use mathlib.Core.Path.{_≡_, sym, ap, _∙_}
 use mathlib.Core.Bool.{Bool, true, false}
 use Prim.Native.Nat.{ℕ, zero, suc, _≤_, _<_}
 use native.Mathlib.Omega.{arith}
+use lib.Dec.{eqb}
+use borrow.Author.Tests.{eq-eqb, ne-eqb}
 use Rattle.xor.proofs.Cases.{by-test, by-less, clash}
 use Rattle.solve.specs.Method.{lowest}
 use Rattle.solve.specs.Bit.{IsLowest}
@@ -33,6 +35,14 @@ lowest-one n test r r′ h h′ = meet (order r r′ h h′) (order r′ r h′ 
 
     meet : (r < r′ → ⊥) → (r′ < r → ⊥) → r ≡ r′
     meet p q = omega arith
+
+-- where none below k passes, k is the lowest exactly if it passes
+pub lowest-at : (n : ℕ) (test : ℕ → Bool) (k : ℕ) → k < n → ((j : ℕ) → j < k → test j ≡ false) → eqb (lowest n test) k ≡ test k
+lowest-at n test k l none =
+    let found = lowest-is n test in
+    by-test (test k)
+    (λ p. eq-eqb (lowest n test) k (lowest-one n test (lowest n test) k found (record { most = omega arith; passes = λ _. p; before = none })) ∙ sym p)
+    (λ p. ne-eqb (lowest n test) k (λ e. clash (ap test (sym e) ∙ found .passes (omega arith)) p) ∙ sym p)
 
 -- it depends on the tests below n alone
 pub lowest-alike : (n : ℕ) (test test′ : ℕ → Bool) (r : ℕ) → ((k : ℕ) → k < n → test k ≡ test′ k) → IsLowest n test r → IsLowest n test′ r

@@ -1,19 +1,17 @@
 -- Laws of masks: a set of at most 64 equations, each a bit of a number, under the steps that elimination takes.
 use mathlib.Core.Path.{_≡_, refl, sym, ap, ap₂, _∙_}
 use mathlib.Core.Logic.{_≢_}
-use mathlib.Core.Bool.{Bool, true, false, cond, not, _&&_, xor, and-false, and-true}
-use Prim.Native.Nat.{ℕ, zero, suc, _+_, _-_, _/_, _%_, _^_, _≤_, _<_}
-use native.Mathlib.Nat.{lt-of-le-of-lt, div-lt-iff-lt-mul, zero-lt-suc, pow-suc}
+use mathlib.Core.Bool.{Bool, true, false, not, _&&_, xor, and-false}
+use Prim.Native.Nat.{ℕ, zero, suc, _-_, _/_, _%_, _^_, _<_}
+use native.Mathlib.Nat.{lt-of-le-of-lt}
 use native.Mathlib.Omega.{arith}
-use lib.Arith.{lt-one}
 use lib.Bits.{bitXor, bitAnd, and-le-r}
-use lib.Count.{ones, ones-step}
 use lib.Dec.{eqb, eqb·suc-suc}
 use lib.Pow.{pow-lt}
 use borrow.Author.Tests.{eq-eqb, ne-eqb, eqb-true}
-use Rattle.xor.specs.Sets.{count}
 use Rattle.xor.proofs.Cases.{by-test, by-equal, clash}
 use Rattle.solve.specs.Bit.{bit, IsLowest}
+use Rattle.solve.specs.Masked.{addedWhere}
 use Rattle.solve.proofs.Bits.{bit-first, bit-next, bit-xor, bit-and, bit-zero, bit-power, no-bits}
 use Rattle.solve.proofs.Tests.{add-nothing, take-out}
 
@@ -60,7 +58,7 @@ less-one (suc t) (suc k) m p before =
 pub clear-lowest : (n m t : ℕ) → IsLowest n (λ k. bit k m) t → t < n → (k : ℕ) → bit k (bitAnd m (m - 1)) ≡ (bit k m && not (eqb k t))
 clear-lowest n m t h l k = bit-and k m (m - 1) ∙ less-one t k m (h .passes l) (h .before)
 
--- ---- a choice, in masks: for each cell the equations that hold it
+-- ---- a choice, in masks
 
 -- the other members of a set that q is in
 pub bit-others : (q r m : ℕ) → bit q m ≡ true → bit r (bitXor m (2 ^ q)) ≡ (not (eqb r q) && bit r m)
@@ -68,45 +66,6 @@ bit-others q r m p =
     bit-xor r m (2 ^ q) ∙ ap (xor (bit r m)) (bit-power r q)
     ∙ take-out (bit r m) (eqb r q) (λ e. ap (λ (k : ℕ). bit k m) (eqb-true r q e) ∙ p)
 
--- q is chosen for a cell with mask m: what becomes of the mask m′ of any cell. It is the mask of `addTo (joins s c q) q`.
-pub bit-added : (q r m m′ : ℕ) → bit q m ≡ true
-    → bit r (cond (bit q m′) (bitXor m′ (bitXor m (2 ^ q))) m′) ≡ xor (bit r m′) (not (eqb r q) && bit r m && bit q m′)
-bit-added q r m m′ p =
-    by-test (bit q m′)
-    (λ e. rw e (bit-xor r m′ (bitXor m (2 ^ q)) ∙ ap (xor (bit r m′)) (bit-others q r m p ∙ sym (and-true (not (eqb r q) && bit r m)))))
-    (λ e. rw e (sym (add-nothing (bit r m′) (not (eqb r q) && bit r m) false refl)))
-
--- ---- how many members a mask has: the code's count of ones
-
--- the first number apart
-count-first : (n : ℕ) (test : ℕ → Bool) → count (suc n) test ≡ cond (test 0) 1 0 + count n (λ k. test (suc k))
-unfolding count
-count-first zero test = omega arith
-count-first (suc n) test = let before = count-first n test in omega arith
-
-digit-count : (d : ℕ) → d < 2 → d ≡ cond (eqb d 1) 1 0
-digit-count zero l = refl
-digit-count (suc zero) l = refl
-digit-count (suc (suc d)) l = absurd (omega arith)
-
-pub count-alike : (n : ℕ) (test test′ : ℕ → Bool) → ((k : ℕ) → k < n → test k ≡ test′ k) → count n test ≡ count n test′
-unfolding count
-count-alike zero test test′ h = refl
-count-alike (suc n) test test′ h = ap₂ (λ (x : ℕ) (b : Bool). x + cond b 1 0) (count-alike n test test′ (λ k l. h k (omega arith))) (h n (omega arith))
-
--- no number from n′ on passes
-pub count-within : (n n′ : ℕ) (test : ℕ → Bool) → n′ ≤ n → ((k : ℕ) → n′ ≤ k → k < n → test k ≡ false) → count n test ≡ count n′ test
-unfolding count
-count-within zero n′ test l none = ap (λ (k : ℕ). count k test) (let z : 0 ≡ n′ = omega arith in z)
-count-within (suc n) n′ test l none =
-    by-equal n′ (suc n) (λ e. ap (λ (k : ℕ). count k test) (sym e))
-    (λ e. rw (none n (omega arith) (omega arith)) (let before = count-within n n′ test (omega arith) (λ k lo hi. none k lo (omega arith)) in omega arith))
-
-pub ones-count : (n m : ℕ) → m < 2 ^ n → ones m ≡ count n (λ k. bit k m)
-unfolding count ones
-ones-count zero m l = ap ones (lt-one l)
-ones-count (suc n) m l =
-    ones-step m
-    ∙ ap₂ _+_ (digit-count (m % 2) (omega arith) ∙ ap (λ (b : Bool). cond b 1 0) (sym (bit-first m)))
-    (ones-count n (m / 2) (div-lt-iff-lt-mul (zero-lt-suc 1) .1 (rw pow-suc at l)) ∙ count-alike n (λ k. bit k (m / 2)) (λ k. bit (suc k) m) (λ k lk. sym (bit-next k m)))
-    ∙ sym (count-first n (λ k. bit k m))
+-- a mask added to another where a test passes
+pub bit-added : (k r test m more : ℕ) → bit k (addedWhere test r m more) ≡ xor (bit k m) (bit r test && bit k more)
+bit-added k r test m more = by-test (bit r test) (λ e. rw e (bit-xor k m more)) (λ e. rw e (sym (add-nothing (bit k m) true false refl)))

@@ -6,10 +6,10 @@ use Prim.Native.Nat.{ℕ, _^_, _<_}
 use borrow.Author.Tests.{eq-eqb, ne-eqb, not-true}
 use Rattle.xor.specs.Xor.{_⊕_}
 use Rattle.xor.proofs.Cases.{by-test, clash, and-left, and-right, and-both}
-use Rattle.xor.proofs.Algebra.{⊕-zero, ⊕-self, ⊕-equal}
+use Rattle.xor.proofs.Algebra.{⊕-zero, ⊕-comm, ⊕-self, ⊕-cancel, ⊕-equal}
 use Rattle.solve.specs.Solution.{over, Solution, Agree, syndrome}
 use Rattle.solve.specs.Method.{State}
-use Rattle.solve.specs.Verdict.{residue, rebuilt, Consistent}
+use Rattle.solve.specs.Verdict.{residue, summed, rebuilt, Consistent}
 use Rattle.solve.proofs.Over.{over-values, over-zero, over-one, over-split, over-kept, over-bits}
 use Rattle.solve.proofs.Invariant.{Invariant}
 
@@ -84,6 +84,14 @@ module _ (E n : ℕ) (equation : ℕ → ℕ → Bool) (lost : ℕ → Bool) (s 
       ∙ ⊕-zero (residue E n equation lost s f q)
 
   -- ---- what follows
+
+  pub value-by-sums : (f : ℕ → ℕ) (d : ℕ) → d < n → lost d ≡ true → residue E n equation lost s f (s .chosen d) ≡ f d ⊕ summed E n equation s f (s .chosen d)
+  value-by-sums f d l e =
+      let r = residue E n equation lost s f (s .chosen d) in
+      sym (ap (λ (x : ℕ). f d ⊕ x) (sym (i .sums f (s .chosen d) (i .below d (solved d l e))) ∙ chosen-sum f d l e ∙ ⊕-comm r (f d)) ∙ ⊕-cancel (f d) r)
+
+  pub zero-by-sums : (f : ℕ → ℕ) (q : ℕ) → q < E → s .used q ≡ false → residue E n equation lost s f q ≡ summed E n equation s f q
+  zero-by-sums f q l u = sym (unused-sum f q l u) ∙ i .sums f q l
 
   pub lost-value : (f : ℕ → ℕ) → Solution E n equation f → (c : ℕ) → c < n → lost c ≡ true → f c ≡ residue E n equation lost s f (s .chosen c)
   lost-value f h c l e =

@@ -1,23 +1,21 @@
 -- Laws of the method's state in masks: the start, and one choice.
-use mathlib.Core.Path.{_≡_, refl, sym, ap, ap₂, _∙_}
-use mathlib.Core.Bool.{Bool, true, false, cond, not, _&&_, xor, and-true, and-false}
+use mathlib.Core.Path.{_≡_, sym, ap, ap₂, _∙_}
+use mathlib.Core.Bool.{Bool, true, false, not, _&&_, xor, and-true, and-false}
+use mathlib.Core.List.{List}
 use Prim.Native.Nat.{ℕ, _-_, _^_, _≤_, _<_}
-use native.Mathlib.Nat.{lt-of-lt-of-le}
 use native.Mathlib.Omega.{arith}
-use lib.Bits.{bitXor, bitAnd, xor-lt}
-use lib.Count.{ones}
+use lib.Bits.{bitXor}
 use lib.Dec.{eqb, ltb}
-use lib.Pow.{pow-lt}
+use lib.ListN.{getD}
 use borrow.Author.Tests.{eq-eqb, ne-eqb, lt-ltb, le-ltb}
-use Rattle.xor.specs.Sets.{count}
 use Rattle.xor.proofs.Cases.{by-test, by-equal}
 use Rattle.solve.specs.Method.{State, start, free, joins, choose}
 use Rattle.solve.specs.Bit.{bit, IsLowest}
-use Rattle.solve.specs.Masked.{Holders, Sources, Unused}
-use Rattle.solve.proofs.Lowest.{lowest-alike, lowest-within}
-use Rattle.solve.proofs.Tests.{add-nothing, both-within, one-within, xor-within, added-within, neither-within}
-use Rattle.solve.proofs.Bits.{bit-xor, bit-and, bit-zero, bit-power, bit-ones}
-use Rattle.solve.proofs.Masks.{bit-others, bit-added, count-alike, count-within, ones-count}
+use Rattle.solve.specs.Masked.{Sources, Unused, firstCell, startsAt, addedWhere}
+use Rattle.solve.proofs.Lowest.{lowest-at, lowest-alike, lowest-within}
+use Rattle.solve.proofs.Tests.{added-within, neither-within}
+use Rattle.solve.proofs.Bits.{bit-power, bit-ones}
+use Rattle.solve.proofs.Masks.{bit-others, bit-added}
 
 -- ---- the start
 
@@ -31,56 +29,46 @@ sources-start E equation q l = record {
 pub unused-start : (E : ℕ) (equation : ℕ → ℕ → Bool) → Unused E (start equation) (2 ^ E - 1)
 unused-start E equation = record { bits = λ r. bit-ones r E ∙ sym (and-true (ltb r E)) }
 
--- ---- the lowest unused equation that holds the cell
+-- ---- the lowest unused equation that holds cell c, which is lost cell number k: no unused one holds a lost cell numbered below k
+module _ (E : ℕ) (s : State) (c k : ℕ) (rows : List ℕ) (unused : ℕ) (small : E ≤ 64) (inside : k < 64) (hu : Unused E s unused)
+    (hk : (r : ℕ) → r < E → bit k (getD rows r 0) ≡ s .row r c)
+    (clear : (r : ℕ) → r < E → s .used r ≡ false → (j : ℕ) → j < k → bit j (getD rows r 0) ≡ false) where
+  -- the equations whose first unsolved cell it is
+  starts-free : (r : ℕ) → r < E → startsAt rows unused k r ≡ free s c r
+  starts-free r l =
+      let first = eqb (firstCell (getD rows r 0)) k in
+      by-test (s .used r)
+      (λ p. ap (λ (b : Bool). b && first) (hu .bits r ∙ ap (λ (b : Bool). ltb r E && not b) p ∙ and-false (ltb r E)) ∙ sym (ap (λ (b : Bool). not b && s .row r c) p))
+      (λ p. ap₂ _&&_ (hu .bits r ∙ ap (λ (b : Bool). b && not (s .used r)) (lt-ltb r E l)) (lowest-at 64 (λ j. bit j (getD rows r 0)) k inside (clear r l p) ∙ hk r l))
 
-free-bits : (E : ℕ) (s : State) (c u m : ℕ) → Unused E s u → Holders E s c m → (r : ℕ) → bit r (bitAnd u m) ≡ (ltb r E && free s c r)
-free-bits E s c u m hu hm r = bit-and r u m ∙ ap₂ _&&_ (hu .bits r) (hm .bits r) ∙ both-within (ltb r E) (not (s .used r)) (s .row r c)
+  starts-inside : (r : ℕ) → E ≤ r → startsAt rows unused k r ≡ false
+  starts-inside r l = ap (λ (b : Bool). b && eqb (firstCell (getD rows r 0)) k) (hu .bits r ∙ ap (λ (b : Bool). b && not (s .used r)) (le-ltb r E l))
 
-pub free-lowest : (E : ℕ) (s : State) (c u m q : ℕ) → E ≤ 64 → Unused E s u → Holders E s c m → q < 64 → IsLowest 64 (λ k. bit k (bitAnd u m)) q
-    → (q < E) × IsLowest E (free s c) q
-free-lowest E s c u m q small hu hm l h =
-    let found = lowest-within 64 E (λ k. bit k (bitAnd u m)) q small (λ k lo hi. free-bits E s c u m hu hm k ∙ ap (λ (b : Bool). b && free s c k) (le-ltb k E lo)) l h in
-    (found .0, lowest-alike E (λ k. bit k (bitAnd u m)) (free s c) q (λ k lk. free-bits E s c u m hu hm k ∙ ap (λ (b : Bool). b && free s c k) (lt-ltb k E lk)) (found .1))
+  pub free-lowest : (q : ℕ) → q < 64 → IsLowest 64 (startsAt rows unused k) q → (q < E) × IsLowest E (free s c) q
+  free-lowest q l h =
+      let found = lowest-within 64 E (startsAt rows unused k) q small (λ r lo hi. starts-inside r lo) l h in
+      (found .0, lowest-alike E (startsAt rows unused k) (free s c) q starts-free (found .1))
 
-pub free-none : (E : ℕ) (s : State) (c u m : ℕ) → Unused E s u → Holders E s c m → bitAnd u m ≡ 0 → (q : ℕ) → q < E → free s c q ≡ false
-free-none E s c u m hu hm e q l =
-    ap (λ (b : Bool). b && free s c q) (sym (lt-ltb q E l)) ∙ sym (free-bits E s c u m hu hm q) ∙ ap (bit q) e ∙ bit-zero q
+  pub free-none : IsLowest 64 (startsAt rows unused k) 64 → (r : ℕ) → r < E → free s c r ≡ false
+  free-none h r l = sym (starts-free r l) ∙ h .before r (omega arith)
 
--- ---- equation q is chosen for cell c, whose mask is m
-module _ (E : ℕ) (s : State) (c q m : ℕ) (below : q < E) (hm : Holders E s c m) (holds : s .row q c ≡ true) where
-  in-mask : bit q m ≡ true
-  in-mask = hm .bits q ∙ ap₂ _&&_ (lt-ltb q E below) holds
-
+-- ---- equation q is chosen for cell c, which the members of m hold
+module _ (E : ℕ) (s : State) (c q m : ℕ) (below : q < E) (hm : (r : ℕ) → r < E → bit r m ≡ s .row r c) (holds : s .row q c ≡ true) where
   -- the equations that q is added to
-  joins-bits : (r : ℕ) → bit r (bitXor m (2 ^ q)) ≡ (ltb r E && joins s c q r)
-  joins-bits r = bit-others q r m in-mask ∙ ap (_&&_ (not (eqb r q))) (hm .bits r) ∙ one-within (ltb r E) (not (eqb r q)) (s .row r c)
+  joins-bit : (r : ℕ) → r < E → bit r (bitXor m (2 ^ q)) ≡ joins s c q r
+  joins-bit r l = bit-others q r m (hm q below ∙ holds) ∙ ap (_&&_ (not (eqb r q))) (hm r l)
 
-  pub joins-bit : (r : ℕ) → r < E → bit r (bitXor m (2 ^ q)) ≡ joins s c q r
-  joins-bit r l = joins-bits r ∙ ap (λ (b : Bool). b && joins s c q r) (lt-ltb r E l)
+  -- a bit of any equation's mask after it, be it of the lost cells or of the original equations
+  pub bit-after : (r : ℕ) → r < E → (k m′ mq : ℕ) (x y : Bool) → bit k m′ ≡ x → bit k mq ≡ y
+      → bit k (addedWhere (bitXor m (2 ^ q)) r m′ mq) ≡ xor x (joins s c q r && y)
+  bit-after r l k m′ mq x y e e′ =
+      bit-added k r (bitXor m (2 ^ q)) m′ mq ∙ ap₂ xor e (ap₂ _&&_ (joins-bit r l) e′)
 
-  -- how many there are
-  pub joins-count : E ≤ 64 → m < 2 ^ 64 → ones (bitXor m (2 ^ q)) ≡ count E (joins s c q)
-  joins-count small l =
-      ones-count 64 (bitXor m (2 ^ q)) (xor-lt 64 m (2 ^ q) l (pow-lt (lt-of-lt-of-le below small)))
-      ∙ count-within 64 E (λ k. bit k (bitXor m (2 ^ q))) small (λ k lo hi. joins-bits k ∙ ap (λ (b : Bool). b && joins s c q k) (le-ltb k E lo))
-      ∙ count-alike E (λ k. bit k (bitXor m (2 ^ q))) (joins s c q) joins-bit
-
-  -- the mask of any cell after it
-  pub holders-next : (d m′ : ℕ) → Holders E s d m′ → Holders E (choose E s c q) d (cond (bit q m′) (bitXor m′ (bitXor m (2 ^ q))) m′)
-  holders-next d m′ h = record {
-    bits = λ r.
-        bit-added q r m m′ in-mask
-        ∙ ap₂ (λ (x y : Bool). xor x (not (eqb r q) && bit r m && y)) (h .bits r) (h .bits q ∙ ap (λ (b : Bool). b && s .row q d) (lt-ltb q E below))
-        ∙ ap (λ (x : Bool). xor (ltb r E && s .row r d) (not (eqb r q) && x && s .row q d)) (hm .bits r)
-        ∙ added-within (ltb r E) (s .row r d) (not (eqb r q)) (s .row r c) (s .row q d);
-  }
-
-  -- the mask of any equation after it
-  pub sources-next : (r m′ mq : ℕ) → Sources E s r m′ → Sources E s q mq → Sources E (choose E s c q) r (cond (joins s c q r) (bitXor m′ mq) m′)
-  sources-next r m′ mq h hq = record {
-    bits = λ k. by-test (joins s c q r)
-        (λ e. rw e (bit-xor k m′ mq ∙ ap₂ xor (h .bits k) (hq .bits k) ∙ xor-within (ltb k E) (s .from r k) (s .from q k)))
-        (λ e. rw e (h .bits k ∙ ap (_&&_ (ltb k E)) (sym (add-nothing (s .from r k) true false refl))));
+  -- the original equations that it is the sum of
+  pub sources-next : (r : ℕ) → r < E → (m′ mq : ℕ) → Sources E s r m′ → Sources E s q mq → Sources E (choose E s c q) r (addedWhere (bitXor m (2 ^ q)) r m′ mq)
+  sources-next r l m′ mq h hq = record {
+    bits = λ k. bit-after r l k m′ mq (ltb k E && s .from r k) (ltb k E && s .from q k) (h .bits k) (hq .bits k)
+        ∙ added-within (ltb k E) (s .from r k) (joins s c q r) (s .from q k);
   }
 
   -- q is used

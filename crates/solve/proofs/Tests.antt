@@ -38,25 +38,11 @@ take-out false false h = refl
 
 -- ---- sets cut to those below a bound (l)
 
-pub both-within : (l a b : Bool) → (l && a && (l && b)) ≡ (l && (a && b))
-both-within true a b = refl
-both-within false a b = refl
-
-pub one-within : (l a b : Bool) → (a && (l && b)) ≡ (l && (a && b))
-one-within l true b = refl
-one-within true false b = refl
-one-within false false b = refl
-
-pub xor-within : (l a b : Bool) → xor (l && a) (l && b) ≡ (l && xor a b)
+pub added-within : (l a b y : Bool) → xor (l && a) (b && (l && y)) ≡ (l && xor a (b && y))
 unfolding xor
-xor-within true a b = refl
-xor-within false a b = refl
-
-pub added-within : (l a x b y : Bool) → xor (l && a) (x && (l && b) && y) ≡ (l && xor a (x && b && y))
-unfolding xor
-added-within true a x b y = refl
-added-within false a true b y = refl
-added-within false a false b y = refl
+added-within true a b y = refl
+added-within false a true y = refl
+added-within false a false y = refl
 
 pub neither-within : (l a b : Bool) → (not a && (l && not b)) ≡ (l && not (a || b))
 neither-within true true b = refl

@@ -1,7 +1,7 @@
 -- The loops of a turn, one step of each as a law on lists of masks.
-use mathlib.Core.Path.{_≡_, refl, sym, ap, ap₂, _∙_}
+use mathlib.Core.Path.{_≡_, refl, sym, ap, ap₂, _∙_, subst}
 use mathlib.Core.Logic.{_≢_}
-use mathlib.Core.Bool.{Bool, true, false, cond, not, _&&_, and-true}
+use mathlib.Core.Bool.{Bool, true, false, cond, not, _&&_, xor, and-true, and-false}
 use mathlib.Core.List.{List}
 use Prim.Native.Nat.{ℕ, _+_, _-_, _^_, _≤_, _<_}
 use native.Mathlib.Omega.{arith}
@@ -9,51 +9,99 @@ use lib.Bits.{bitXor, bitAnd}
 use lib.Dec.{eqb}
 use lib.ListN.{length, getD, set, length-set}
 use lib.Seq.{getD-set-same, getD-set-other}
-use borrow.Author.Tests.{eq-eqb, ne-eqb, not-true, not-false}
-use Rattle.xor.proofs.Cases.{by-equal, and-left, clash}
+use borrow.Author.Tests.{eq-eqb, ne-eqb, lt-ltb, le-ltb, not-true, not-false}
+use Rattle.xor.proofs.Cases.{by-equal, by-less, and-left, and-both, clash}
 use Rattle.solve.specs.Bit.{bit, IsLowest}
-use Rattle.solve.specs.Masked.{addedWhere, Swept, Spread, Own}
-use Rattle.solve.proofs.Bits.{bit-zero}
+use Rattle.solve.specs.Masked.{firstCell, startsAt, Holding, addedWhere, Spread, Own}
+use Rattle.solve.proofs.Bits.{bit-zero, bit-xor, bit-power}
+use Rattle.solve.proofs.Tests.{add-nothing}
 use Rattle.solve.proofs.Masks.{and-power, clear-lowest}
 
--- ---- one mask
+-- ---- the lowest member t taken out of rest
+module _ (rest t : ℕ) (l : t < 64) (found : IsLowest 64 (λ k. bit k rest) t) where
+  cleared : (r : ℕ) → bit r (bitAnd rest (rest - 1)) ≡ (bit r rest && not (eqb r t))
+  cleared = clear-lowest 64 rest t found l
 
-module _ (mask q others : ℕ) (one : ℕ) (e : one ≡ 2 ^ q) where
-  member-is : eqb (bitAnd mask one) 0 ≡ not (bit q mask)
-  member-is = ap (λ (m : ℕ). eqb (bitAnd mask m) 0) e ∙ and-power q mask
+  member : (r : ℕ) → bit r (bitAnd rest (rest - 1)) ≡ true → bit r rest ≡ true
+  member r e = and-left (bit r rest) (not (eqb r t)) (sym (cleared r) ∙ e)
 
-  pub not-swept : bitAnd mask one ≡ 0 → mask ≡ addedWhere mask q mask others
-  not-swept z = sym (ap (λ (b : Bool). cond b (bitXor mask others) mask) (not-true (bit q mask) (sym member-is ∙ eq-eqb (bitAnd mask one) 0 z)))
+  stays : (r : ℕ) → r ≢ t → bit r (bitAnd rest (rest - 1)) ≡ bit r rest
+  stays r other = cleared r ∙ ap (λ (b : Bool). bit r rest && not b) (ne-eqb r t other) ∙ and-true (bit r rest)
 
-  pub is-swept : bitAnd mask one ≢ 0 → bitXor mask others ≡ addedWhere mask q mask others
-  is-swept z = sym (ap (λ (b : Bool). cond b (bitXor mask others) mask) (not-false (bit q mask) (sym member-is ∙ ne-eqb (bitAnd mask one) 0 z)))
+  gone : (r : ℕ) → r ≡ t → bit r (bitAnd rest (rest - 1)) ≡ false
+  gone r same = cleared r ∙ ap₂ (λ (a b : Bool). a && not b) (ap (λ (k : ℕ). bit k rest) same ∙ found .passes l) (eq-eqb r t same)
 
--- ---- the masks of the cells from j on: those before i are swept
+-- ---- the search for an equation: of the unused ones, those that are no more in rest don't start at lost cell number k
 
-pub record SweptTo (old : List ℕ) (j q others : ℕ) (new : List ℕ) (i : ℕ) : Type 0 where
-  pub low : j ≤ i
-  pub long : length new ≡ 64
-  pub done : (k : ℕ) → j ≤ k → k < i → getD new k 0 ≡ addedWhere (getD old k 0) q (getD old k 0) others
-  pub rest : (k : ℕ) → i ≤ k → getD new k 0 ≡ getD old k 0
+pub record Sought (rows : List ℕ) (unused k rest : ℕ) : Type 0 where
+  pub within : (q : ℕ) → bit q rest ≡ true → bit q unused ≡ true
+  pub done : (q : ℕ) → bit q rest ≡ false → startsAt rows unused k q ≡ false
 
-module _ (old : List ℕ) (j q others : ℕ) where
-  pub swept-none : length old ≡ 64 → SweptTo old j q others old j
-  swept-none long = record { low = omega arith; long = long; done = λ k lo hi. absurd (omega arith); rest = λ k l. refl }
+module _ (rows : List ℕ) (unused k : ℕ) where
+  pub sought-none : Sought rows unused k unused
+  sought-none = record { within = λ q e. e; done = λ q e. ap (λ (b : Bool). b && eqb (firstCell (getD rows q 0)) k) e }
 
-  pub swept-more : (new : List ℕ) (i x : ℕ) → i < 64 → SweptTo old j q others new i → x ≡ addedWhere (getD new i 0) q (getD new i 0) others
-      → SweptTo old j q others (set new i x) (i + 1)
-  swept-more new i x l h e = record {
-    low = let low = h .low in omega arith;
-    long = length-set new i x ∙ h .long;
-    done = λ k lo hi. by-equal k i
-        (λ same. ap (λ (r : ℕ). getD (set new i x) r 0) same ∙ getD-set-same new i x 0 (omega (arith, h .long))
-        ∙ e ∙ ap (λ (m : ℕ). addedWhere m q m others) (h .rest i (omega arith) ∙ ap (λ (r : ℕ). getD old r 0) (sym same)))
-        (λ other. getD-set-other new i k x 0 other ∙ h .done k lo (omega arith));
-    rest = λ k lk. getD-set-other new i k x 0 (λ same. omega arith) ∙ h .rest k (omega arith);
+  pub sought-more : (rest t first : ℕ) → t < 64 → IsLowest 64 (λ b. bit b rest) t → first ≡ firstCell (getD rows t 0) → first ≢ k
+      → Sought rows unused k rest → Sought rows unused k (bitAnd rest (rest - 1))
+  sought-more rest t first l found e other h = record {
+    within = λ q p. h .within q (member rest t l found q p);
+    done = λ q p. by-equal q t
+        (λ same. ap (startsAt rows unused k) same ∙ ap (_&&_ (bit t unused)) (ne-eqb (firstCell (getD rows t 0)) k (λ z. other (e ∙ z))) ∙ and-false (bit t unused))
+        (λ differs. h .done q (sym (stays rest t l found q differs) ∙ p));
   }
 
-  pub swept-all : (new : List ℕ) (i u : ℕ) → u ≤ i → SweptTo old j q others new i → Swept old j u q others new
-  swept-all new i u l h = record { long = h .long; mask = λ k lo hi. h .done k lo (omega arith) }
+  pub sought-found : (rest t first : ℕ) → t < 64 → IsLowest 64 (λ b. bit b rest) t → first ≡ firstCell (getD rows t 0) → first ≡ k
+      → Sought rows unused k rest → IsLowest 64 (startsAt rows unused k) t
+  sought-found rest t first l found e same h = record {
+    most = omega arith;
+    passes = λ _. and-both (h .within t (found .passes l)) (eq-eqb (firstCell (getD rows t 0)) k (sym e ∙ same));
+    before = λ q lq. h .done q (found .before q lq);
+  }
+
+  pub sought-all : (rest : ℕ) → rest ≡ 0 → Sought rows unused k rest → IsLowest 64 (startsAt rows unused k) 64
+  sought-all rest e h = record { most = omega arith; passes = λ l. absurd (omega arith); before = λ q l. h .done q (ap (bit q) e ∙ bit-zero q) }
+
+-- ---- the set of the equations that hold lost cell number k, one equation at a time
+module _ (rows : List ℕ) (k : ℕ) where
+  pub holding-none : Holding 0 rows k 0
+  holding-none = record { bits = λ q. bit-zero q ∙ sym (ap (λ (b : Bool). b && bit k (getD rows q 0)) (le-ltb q 0 (omega arith))) }
+
+  -- equation q comes to those before it
+  holding-next : (m m′ q : ℕ) → bit q m′ ≡ bit k (getD rows q 0) → ((r : ℕ) → r ≢ q → bit r m′ ≡ bit r m) → Holding q rows k m → Holding (q + 1) rows k m′
+  holding-next m m′ q here others h = record {
+    bits = λ r. by-equal r q
+        (λ same. ap (λ (j : ℕ). bit j m′) same ∙ here ∙ sym (ap₂ (λ (b : Bool) (j : ℕ). b && bit k (getD rows j 0)) (lt-ltb r (q + 1) (omega arith)) same))
+        (λ other. others r other ∙ h .bits r ∙ ap (λ (b : Bool). b && bit k (getD rows r 0)) (by-less r q
+        (λ l. lt-ltb r q l ∙ sym (lt-ltb r (q + 1) (omega arith))) (λ l. le-ltb r q l ∙ sym (le-ltb r (q + 1) (omega arith)))));
+  }
+
+  module _ (m q cell : ℕ) (e : cell ≡ 2 ^ k) (h : Holding q rows k m) where
+    member-is : eqb (bitAnd (getD rows q 0) cell) 0 ≡ not (bit k (getD rows q 0))
+    member-is = ap (λ (x : ℕ). eqb (bitAnd (getD rows q 0) x) 0) e ∙ and-power k (getD rows q 0)
+
+    absent : bit q m ≡ false
+    absent = h .bits q ∙ ap (λ (b : Bool). b && bit k (getD rows q 0)) (le-ltb q q (omega arith))
+
+    pub holding-less : (m′ : ℕ) → m′ ≡ m → bitAnd (getD rows q 0) cell ≡ 0 → Holding (q + 1) rows k m′
+    holding-less m′ same z =
+        holding-next m m′ q
+        (ap (bit q) same ∙ absent ∙ sym (not-true (bit k (getD rows q 0)) (sym member-is ∙ eq-eqb (bitAnd (getD rows q 0) cell) 0 z)))
+        (λ r other. ap (bit r) same)
+        h
+
+    pub holding-more : (m′ one : ℕ) → one ≡ 2 ^ q → m′ ≡ bitXor m one → bitAnd (getD rows q 0) cell ≢ 0 → Holding (q + 1) rows k m′
+    unfolding xor
+    holding-more m′ one e′ same z =
+        holding-next m m′ q
+        (joined q ∙ ap₂ xor absent (eq-eqb q q refl) ∙ sym (not-false (bit k (getD rows q 0)) (sym member-is ∙ ne-eqb (bitAnd (getD rows q 0) cell) 0 z)))
+        (λ r other. joined r ∙ ap (xor (bit r m)) (ne-eqb r q other) ∙ add-nothing (bit r m) true false refl)
+        h
+      where
+        joined : (r : ℕ) → bit r m′ ≡ xor (bit r m) (eqb r q)
+        joined r = ap (bit r) (same ∙ ap (bitXor m) e′) ∙ bit-xor r m (2 ^ q) ∙ ap (xor (bit r m)) (bit-power r q)
+
+  pub holding-all : (m q n : ℕ) → q ≡ n → Holding q rows k m → Holding n rows k m
+  holding-all m q n e h = subst (λ (i : ℕ). Holding i rows k m) e h
 
 -- ---- the masks of the members of others: those in rest are still to come
 
@@ -71,27 +119,15 @@ module _ (old : List ℕ) (others more : ℕ) where
       → SpreadTo old others more (set new t (bitXor (getD new t 0) more)) (bitAnd rest (rest - 1))
   spread-more new rest t l found h = record {
     long = length-set new t x ∙ h .long;
-    within = λ r e. h .within r (member r e);
+    within = λ r e. h .within r (member rest t l found r e);
     done = λ r lr e. by-equal r t
         (λ same. ap (λ (k : ℕ). getD (set new t x) k 0) same ∙ getD-set-same new t x 0 (omega (arith, h .long)) ∙ own ∙ ap (λ (k : ℕ). addedWhere others k (getD old k 0) more) (sym same))
-        (λ other. getD-set-other new t r x 0 other ∙ h .done r lr (sym (stays r other) ∙ e));
-    kept = λ r e. getD-set-other new t r x 0 (λ same. clash e (gone r same)) ∙ h .kept r (member r e);
+        (λ other. getD-set-other new t r x 0 other ∙ h .done r lr (sym (stays rest t l found r other) ∙ e));
+    kept = λ r e. getD-set-other new t r x 0 (λ same. clash e (gone rest t l found r same)) ∙ h .kept r (member rest t l found r e);
   }
     where
       x : ℕ
       x = bitXor (getD new t 0) more
-
-      cleared : (r : ℕ) → bit r (bitAnd rest (rest - 1)) ≡ (bit r rest && not (eqb r t))
-      cleared = clear-lowest 64 rest t found l
-
-      member : (r : ℕ) → bit r (bitAnd rest (rest - 1)) ≡ true → bit r rest ≡ true
-      member r e = and-left (bit r rest) (not (eqb r t)) (sym (cleared r) ∙ e)
-
-      stays : (r : ℕ) → r ≢ t → bit r (bitAnd rest (rest - 1)) ≡ bit r rest
-      stays r other = cleared r ∙ ap (λ (b : Bool). bit r rest && not b) (ne-eqb r t other) ∙ and-true (bit r rest)
-
-      gone : (r : ℕ) → r ≡ t → bit r (bitAnd rest (rest - 1)) ≡ false
-      gone r same = cleared r ∙ ap₂ (λ (a b : Bool). a && not b) (ap (λ (k : ℕ). bit k rest) same ∙ found .passes l) (eq-eqb r t same)
 
       own : x ≡ addedWhere others t (getD old t 0) more
       own = ap (λ (m : ℕ). bitXor m more) (h .kept t (found .passes l)) ∙ sym (ap (λ (b : Bool). cond b (bitXor (getD old t 0) more) (getD old t 0)) (h .within t (found .passes l)))

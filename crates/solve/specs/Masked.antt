@@ -1,19 +1,15 @@
--- The method's state in masks: for each lost cell the equations that hold it, for each equation the original ones that it is the sum of,
--- and the unused equations. A program may keep these masks in any order.
+-- The method's state in masks: for each equation the lost cells that it holds, by their number in rising order, and the original
+-- equations that it is the sum of; and the unused equations.
 use mathlib.Core.Path.{_≡_}
 use mathlib.Core.List.{List}
 use mathlib.Core.Bool.{Bool, true, false, cond, not, _&&_}
-use Prim.Native.Nat.{ℕ, _^_, _≤_, _<_}
+use Prim.Native.Nat.{ℕ, _^_, _<_}
 use lib.Bits.{bitXor}
-use lib.Dec.{ltb}
+use lib.Dec.{eqb, ltb}
 use lib.ListN.{length, getD}
 use Rattle.solve.specs.declared.Eliminated.{Eliminated}
 use Rattle.solve.specs.Bit.{bit}
-use Rattle.solve.specs.Method.{State, start, Outcome, passed, stopped, run}
-
--- m is the set of the equations that hold cell c
-pub record Holders (E : ℕ) (s : State) (c m : ℕ) : Type 0 where
-  pub bits : (r : ℕ) → bit r m ≡ (ltb r E && s .row r c)
+use Rattle.solve.specs.Method.{lowest, State, Outcome, passed, stopped, run}
 
 -- m is the set of the original equations that equation q is the sum of
 pub record Sources (E : ℕ) (s : State) (q m : ℕ) : Type 0 where
@@ -25,14 +21,21 @@ pub record Unused (E : ℕ) (s : State) (m : ℕ) : Type 0 where
 
 -- ---- the steps of a turn, on lists of 64 masks
 
+-- an equation's first unsolved cell: the lowest of the lost cells in its mask; 64 where it has none
+abbrev pub firstCell : ℕ → ℕ
+firstCell row = lowest 64 (λ k. bit k row)
+
+-- equation q is unused, and its first unsolved cell is number k
+abbrev pub startsAt : List ℕ → ℕ → ℕ → ℕ → Bool
+startsAt rows unused k q = bit q unused && eqb (firstCell (getD rows q 0)) k
+
+-- m is the set of those of the first E equations that hold lost cell number k
+pub record Holding (E : ℕ) (rows : List ℕ) (k m : ℕ) : Type 0 where
+  pub bits : (q : ℕ) → bit q m ≡ (ltb q E && bit k (getD rows q 0))
+
 -- `more` added to the mask m where q is a member of `test`
 abbrev pub addedWhere : ℕ → ℕ → ℕ → ℕ → ℕ
 addedWhere test q m more = cond (bit q test) (bitXor m more) m
-
--- new is old with `others` added to each mask from j on, below u, that q is a member of
-pub record Swept (old : List ℕ) (j u q others : ℕ) (new : List ℕ) : Type 0 where
-  pub long : length new ≡ 64
-  pub mask : (i : ℕ) → j ≤ i → i < u → getD new i 0 ≡ addedWhere (getD old i 0) q (getD old i 0) others
 
 -- new is old with mask q added to the mask of each member of `others`
 pub record Spread (old : List ℕ) (others q : ℕ) (new : List ℕ) : Type 0 where
@@ -53,14 +56,14 @@ pub record Lists (n : ℕ) (lost : ℕ → Bool) (u : ℕ) (cell : ℕ → ℕ) 
   pub isLost : (k : ℕ) → k < u → lost (cell k) ≡ true
   pub all : (c : ℕ) → c < n → lost c ≡ true → (k : ℕ) × (k < u) × (cell k ≡ c)
 
--- a problem in masks: its equations, its lost cells in a list, and mask k is the set of the equations that hold lost cell number k
+-- a problem in masks: its equations, its lost cells in a list, and mask q is the set of the numbers of the lost cells that equation q holds
 pub record Problem (E u : ℕ) (masks : List ℕ) : Type 0 where
   pub n : ℕ
   pub equation : ℕ → ℕ → Bool
   pub lost : ℕ → Bool
   pub cell : ℕ → ℕ
   pub lists : Lists n lost u cell
-  pub holders : (k : ℕ) → k < u → Holders E (start equation) (cell k) (getD masks k 0)
+  pub rows : (q : ℕ) → q < E → (k : ℕ) → k < u → bit k (getD masks q 0) ≡ equation q (cell k)
 
 -- what the method comes to on it
 abbrev pub outcome : (E u : ℕ) (masks : List ℕ) → Problem E u masks → Outcome

@@ -3,12 +3,17 @@ use mathlib.Core.Path.{_≡_}
 use mathlib.Core.Logic.{_≢_}
 use mathlib.Core.Bool.{Bool, true, false, cond}
 use Prim.Native.Nat.{ℕ, _<_}
+use Rattle.xor.specs.Xor.{_⊕_}
 use Rattle.solve.specs.Solution.{over, Solution, Agree, syndrome}
 use Rattle.solve.specs.Method.{State, Outcome, passed, stopped}
 
 -- the XOR of the syndromes of the original equations that equation q is the sum of
 abbrev pub residue : ℕ → ℕ → (ℕ → ℕ → Bool) → (ℕ → Bool) → State → (ℕ → ℕ) → ℕ → ℕ
 residue E n equation lost s f q = over E (s .from q) (syndrome n equation lost f)
+
+-- the XOR of f over all cells, lost ones too, of each of those equations
+abbrev pub summed : ℕ → ℕ → (ℕ → ℕ → Bool) → State → (ℕ → ℕ) → ℕ → ℕ
+summed E n equation s f q = over E (s .from q) (λ r. over n (equation r) f)
 
 -- the survivors of f, and in each lost cell the residue of the equation chosen for it
 abbrev pub rebuilt : ℕ → ℕ → (ℕ → ℕ → Bool) → (ℕ → Bool) → State → (ℕ → ℕ) → ℕ → ℕ
@@ -31,6 +36,9 @@ pub record Determined (E n : ℕ) (equation : ℕ → ℕ → Bool) (lost : ℕ 
   pub agrees : (f : ℕ → ℕ) → Agree n lost f (rebuilt E n equation lost s f)
   -- it is made of bytes where the survivors are
   pub bytes : (f : ℕ → ℕ) → ((c : ℕ) → c < n → lost c ≡ false → f c < 256) → (c : ℕ) → c < n → rebuilt E n equation lost s f c < 256
+  -- the same from sums over whole equations: what f has in lost cells cancels
+  pub valueBySums : (f : ℕ → ℕ) (c : ℕ) → c < n → lost c ≡ true → residue E n equation lost s f (s .chosen c) ≡ f c ⊕ summed E n equation s f (s .chosen c)
+  pub zeroBySums : (f : ℕ → ℕ) (q : ℕ) → q < E → s .used q ≡ false → residue E n equation lost s f q ≡ summed E n equation s f q
   -- the chosen equations
   pub below : (c : ℕ) → c < n → lost c ≡ true → s .chosen c < E
 

@@ -1,10 +1,10 @@
-// Elimination on sets of at most 63 equations, each set the bits of a u64.
+// Elimination on at most 63 equations and 64 lost cells. Sets of either are the bits of a u64.
 ghost use mathlib.Core.Path.{_≡_};
 ghost use mathlib.Core.Logic.{_≢_};
 ghost use Prim.Native.Nat.{_^_, _≤_, _<_};
 ghost use lib.ListN.{length};
 ghost use Rattle.solve.specs.Bit.{bit, IsLowest};
-ghost use Rattle.solve.specs.Masked.{addedWhere, Swept, Spread, Own, Eliminates};
+ghost use Rattle.solve.specs.Masked.{firstCell, startsAt, Holding, Spread, Own, Eliminates};
 
 // What elimination answers: whether it found an equation for every lost cell, and the set of the equations that it didn't use.
 pub struct Eliminated {
@@ -28,39 +28,56 @@ pub fn one_bit(q: usize) -> u64
     1u64 << q
 }
 
-// A mask after an addition that is made only where q is a member of it.
-fn swept_mask(mask: u64, q: usize, others: u64) -> u64
-    requires { ⌜ q < 64 ⌝ }
-    ensures { λ r. ⌜ r ≡ addedWhere mask q mask others ⌝ }
+// An equation's first unsolved cell: the lowest of the lost cells that it holds; 64 where it holds none.
+fn first_cell(row: u64) -> u32
+    ensures { λ r. ⌜ r ≡ firstCell row ⌝ }
 {
-    if mask & one_bit(q) == 0 {
-        return mask;
-    }
-    mask ^ others
+    u64::trailing_zeros(row)
 }
 
-// Equation q is added to the others that hold a lost cell: what becomes of the masks of the lost cells from j on.
-fn sweep(holders: &mut [u64; 64], j: usize, lost: usize, q: usize, others: u64)
-    requires { ⌜ (length (now holders) ≡ 64) × (lost ≤ 64) × (q < 64) ⌝ }
-    ensures { λ _. ⌜ Swept (now (holders .entry)) j lost q others (now (holders .exit)) ⌝ }
+// The lowest unused equation whose first unsolved cell is number k; 64 where there is none.
+fn find_equation(rows: &[u64; 64], unused: u64, k: usize) -> usize
+    requires { ⌜ length (now rows) ≡ 64 ⌝ }
+    ensures { λ r. ⌜ IsLowest 64 (startsAt (now (rows .entry)) unused k) r ⌝ }
 {
-    let mut i = j;
-    while i < lost {
-        holders[i] = swept_mask(holders[i], q, others);
-        i += 1;
+    let mut rest = unused;
+    while rest != 0 {
+        let q = lowest_bit(rest) as usize;
+        if first_cell(rows[q]) as usize == k {
+            return q;
+        }
+        rest = rest & (rest - 1);
     }
+    64
 }
 
-// Equation q is added to the others: what becomes of the sets of original equations that they are the sums of.
-fn spread(sources: &mut [u64; 64], others: u64, q: usize)
-    requires { ⌜ (length (now sources) ≡ 64) × (q < 64) ⌝ }
-    ensures { λ _. ⌜ Spread (now (sources .entry)) others q (now (sources .exit)) ⌝ }
+// The set of the equations that hold lost cell number k.
+fn holding(rows: &[u64; 64], equations: usize, k: usize) -> u64
+    requires { ⌜ (length (now rows) ≡ 64) × (equations ≤ 64) × (k < 64) ⌝ }
+    ensures { λ r. ⌜ Holding equations (now (rows .entry)) k r ⌝ }
 {
-    let more = sources[q];
+    let cell = one_bit(k);
+    let mut members = 0;
+    let mut q = 0;
+    while q < equations {
+        if rows[q] & cell != 0 {
+            members = members ^ one_bit(q);
+        }
+        q += 1;
+    }
+    members
+}
+
+// Equation q is added to the others: what becomes of their masks, be they of lost cells or of original equations.
+fn spread(masks: &mut [u64; 64], others: u64, q: usize)
+    requires { ⌜ (length (now masks) ≡ 64) × (q < 64) ⌝ }
+    ensures { λ _. ⌜ Spread (now (masks .entry)) others q (now (masks .exit)) ⌝ }
+{
+    let more = masks[q];
     let mut rest = others;
     while rest != 0 {
         let r = lowest_bit(rest) as usize;
-        sources[r] = sources[r] ^ more;
+        masks[r] = masks[r] ^ more;
         rest = rest & (rest - 1);
     }
 }
@@ -77,35 +94,33 @@ fn own_sources(sources: &mut [u64; 64], equations: usize)
     }
 }
 
-// The elimination method, over `lost` lost cells and `equations` equations. What is lent: `holders`, at k the set of the equations that
-// hold lost cell number k, which it uses up; `sources`, where it leaves at q the set of the original equations that equation q is now the
-// sum of; `chosen`, where it leaves at k the equation chosen for lost cell number k.
+// The elimination method. Lent: `rows`, at q the set of the lost cells that equation q holds, which is used up; `sources`, left at q: the
+// set of the original equations that q is now the sum of; `chosen`, left at k: the equation chosen for lost cell number k.
 pub fn eliminate(
-    holders: &mut [u64; 64],
+    rows: &mut [u64; 64],
     sources: &mut [u64; 64],
     chosen: &mut [usize; 64],
     lost: usize,
     equations: usize,
 ) -> Eliminated
-    requires { ⌜ (length (now holders) ≡ 64) × (length (now sources) ≡ 64) × (length (now chosen) ≡ 64) × (lost ≤ 64) × (equations < 64) ⌝ }
-    ensures { λ r. ⌜ Eliminates equations lost (now (holders .entry)) (now (sources .exit)) (now (chosen .exit)) r ⌝ }
+    requires { ⌜ (length (now rows) ≡ 64) × (length (now sources) ≡ 64) × (length (now chosen) ≡ 64) × (lost ≤ 64) × (equations < 64) ⌝ }
+    ensures { λ r. ⌜ Eliminates equations lost (now (rows .entry)) (now (sources .exit)) (now (chosen .exit)) r ⌝ }
 {
     own_sources(sources, equations);
     let mut unused = one_bit(equations) - 1;
     let mut k = 0;
     while k < lost {
-        let mask = holders[k];
-        let free = unused & mask;
-        if free == 0 {
+        let q = find_equation(rows, unused, k);
+        if q == 64 {
             return Eliminated {
                 determined: false,
                 unused: unused,
             };
         }
-        let q = lowest_bit(free) as usize;
         let one = one_bit(q);
-        sweep(holders, k + 1, lost, q, mask ^ one);
-        spread(sources, mask ^ one, q);
+        let others = holding(rows, equations, k) ^ one;
+        spread(rows, others, q);
+        spread(sources, others, q);
         chosen[k] = q;
         unused = unused ^ one;
         k += 1;

@@ -9,10 +9,10 @@ use Rattle.solve.proofs.eliminate.Statement.{statement}
 use Rattle.solve.proofs.eliminate.Tie as tie
 
 abbrev Inv-loop : tie.InvT-loop
-Inv-loop holders₀ sources₀ chosen₀ lost equations unused₀ k₀ holders sources chosen unused k = Sofar equations lost holders₀ holders sources chosen unused k
+Inv-loop rows₀ sources₀ chosen₀ lost equations unused₀ k₀ rows sources chosen unused k = Sofar equations lost rows₀ rows sources chosen unused k
 
 abbrev μ-loop : tie.MeasureT-loop
-μ-loop holders₀ sources₀ chosen₀ lost equations unused₀ k₀ holders sources chosen unused k = lost - k
+μ-loop rows₀ sources₀ chosen₀ lost equations unused₀ k₀ rows sources chosen unused k = lost - k
 
 own-sources-requires : tie.Need-own-sources-requires Inv-loop μ-loop
 own-sources-requires c κs = search needs
@@ -26,34 +26,33 @@ sub-unused c = omega (arith, c .one-bit .ensures, pow-pos (c .before .before .be
 loop-holds : tie.Need-loop-holds Inv-loop μ-loop
 loop-holds c = sofar-first _ _ _ _ _ _ (c .before .before .before .pre .0) (c .before .before .before .pre .2) (c .before .own-sources .ensures) (c .one-bit .ensures)
 
-mul-mask : tie.Need-mul-mask Inv-loop μ-loop
-mul-mask c = search needs
-
-element-copy-out-mask : tie.Need-element-copy-out-mask Inv-loop μ-loop
-element-copy-out-mask c = search needs
+find-equation-requires : tie.Need-find-equation-requires Inv-loop μ-loop
+find-equation-requires c κs = c .before .before .loop .inv .longRows
 
 returns : tie.Need-returns Inv-loop μ-loop
-returns c = sofar-stops _ _ _ _ _ _ _ _ (omega arith) (c .if1 .taken) (c .before .before .before .loop .inv)
-
-lowest-bit-requires : tie.Need-lowest-bit-requires Inv-loop μ-loop
-lowest-bit-requires c κs = search needs
-
-cast-q : tie.Need-cast-q Inv-loop μ-loop
-cast-q c = search needs
+returns c =
+    let entry = c .before .before .before .before .before .before .before .before in
+    sofar-stops _ _ _ _ _ _ _ _ _ (entry .pre .4) (entry .pre .3) (omega arith) (c .if1 .taken) (c .before .find-equation .ensures) (c .before .before .before .before .loop .inv)
 
 one-bit-requires-2 : tie.Need-one-bit-requires-2 Inv-loop μ-loop
-one-bit-requires-2 c κs = search needs
+one-bit-requires-2 c κs = let most = c .before .find-equation .ensures .most in omega arith
 
-add-sweep : tie.Need-add-sweep Inv-loop μ-loop
-add-sweep c = search needs
-
-sweep-requires : tie.Need-sweep-requires Inv-loop μ-loop
-sweep-requires c κs =
+holding-requires : tie.Need-holding-requires Inv-loop μ-loop
+holding-requires c κs =
     let entry = c .before .before .before .before .before .before .before .before .before .before in
-    (c .before .before .before .before .before .before .loop .inv .longHolders, entry .pre .3, c .before .before .lowest-bit .ensures .0)
+    (c .before .before .before .before .before .before .loop .inv .longRows, omega (arith, entry .pre .4), omega (arith, entry .pre .3))
 
 spread-requires : tie.Need-spread-requires Inv-loop μ-loop
-spread-requires c κs = (c .before .before .before .before .before .before .before .before .loop .inv .longSources, c .before .before .before .before .lowest-bit .ensures .0)
+spread-requires c κs = (
+  c .before .before .before .before .before .before .before .before .loop .inv .longRows,
+  let most = c .before .before .before .before .before .find-equation .ensures .most in omega arith,
+)
+
+spread-requires-2 : tie.Need-spread-requires-2 Inv-loop μ-loop
+spread-requires-2 c κs = (
+  c .before .before .before .before .before .before .before .before .before .before .loop .inv .longSources,
+  let most = c .before .before .before .before .before .before .before .find-equation .ensures .most in omega arith,
+)
 
 mul-chosen : tie.Need-mul-chosen Inv-loop μ-loop
 mul-chosen c = search needs
@@ -69,10 +68,11 @@ loop-less c = omega arith
 
 loop-again : tie.Need-loop-again Inv-loop μ-loop
 loop-again c =
-    let entry = c .before .before .before .before .before .before .before .before .before .before .before .before .before in
-    let found = c .before .before .before .before .before .lowest-bit .ensures in
-    sofar-more _ _ _ _ _ _ _ _ _ _ _ _ (entry .pre .4) (entry .pre .3) (omega arith) (found .0) (found .1) (c .before .before .before .before .one-bit2 .ensures)
-    (c .before .before .sweep .ensures) (c .spread .ensures) (c .before .before .before .before .before .before .before .before .before .loop .inv)
+    let chose = c .before .before .before .before .before .before in
+    let entry = chose .before .before .before .before .before .before .before .before .before in
+    let found = chose .before .before .find-equation .ensures in
+    sofar-more _ _ _ _ _ _ _ _ _ _ _ _ _ (entry .pre .4) (entry .pre .3) (omega arith) (let most = found .most in omega arith) found (chose .one-bit2 .ensures)
+    (c .before .before .before .before .holding .ensures) (c .before .before .spread .ensures) (c .spread2 .ensures) (chose .before .before .before .before .before .loop .inv)
 
 returns-2 : tie.Need-returns-2 Inv-loop μ-loop
 returns-2 c = sofar-all _ _ _ _ _ _ _ _ (let low = c .before .loop .inv .low in omega arith) (c .before .loop .inv)
@@ -87,15 +87,12 @@ eliminate-spec =
     one-bit-requires
     sub-unused
     loop-holds
-    mul-mask
-    element-copy-out-mask
+    find-equation-requires
     returns
-    lowest-bit-requires
-    cast-q
     one-bit-requires-2
-    add-sweep
-    sweep-requires
+    holding-requires
     spread-requires
+    spread-requires-2
     mul-chosen
     element-write-chosen
     add-k

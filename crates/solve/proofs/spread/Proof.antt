@@ -9,10 +9,10 @@ use Rattle.solve.proofs.spread.Statement.{statement}
 use Rattle.solve.proofs.spread.Tie as tie
 
 abbrev Inv-loop : tie.InvT-loop
-Inv-loop sources₀ others q more rest₀ sources rest = SpreadTo sources₀ others more sources rest
+Inv-loop masks₀ others q more rest₀ masks rest = SpreadTo masks₀ others more masks rest
 
 abbrev μ-loop : tie.MeasureT-loop
-μ-loop sources₀ others q more rest₀ sources rest = rest
+μ-loop masks₀ others q more rest₀ masks rest = rest
 
 mul-more : tie.Need-mul-more Inv-loop μ-loop
 mul-more c = search needs
@@ -29,17 +29,17 @@ lowest-bit-requires c κs = search needs
 cast-r : tie.Need-cast-r Inv-loop μ-loop
 cast-r c = search needs
 
-mul-sources : tie.Need-mul-sources Inv-loop μ-loop
-mul-sources c = search needs
+mul-masks : tie.Need-mul-masks Inv-loop μ-loop
+mul-masks c = search needs
 
-element-copy-out-sources : tie.Need-element-copy-out-sources Inv-loop μ-loop
-element-copy-out-sources c = search needs
+element-copy-out-masks : tie.Need-element-copy-out-masks Inv-loop μ-loop
+element-copy-out-masks c = search needs
 
-mul-sources-2 : tie.Need-mul-sources-2 Inv-loop μ-loop
-mul-sources-2 c = search needs
+mul-masks-2 : tie.Need-mul-masks-2 Inv-loop μ-loop
+mul-masks-2 c = search needs
 
-element-write-sources : tie.Need-element-write-sources Inv-loop μ-loop
-element-write-sources c = search needs
+element-write-masks : tie.Need-element-write-masks Inv-loop μ-loop
+element-write-masks c = search needs
 
 sub-rest : tie.Need-sub-rest Inv-loop μ-loop
 sub-rest c = search needs
@@ -64,10 +64,10 @@ spread-spec =
     loop-holds
     lowest-bit-requires
     cast-r
-    mul-sources
-    element-copy-out-sources
-    mul-sources-2
-    element-write-sources
+    mul-masks
+    element-copy-out-masks
+    mul-masks-2
+    element-write-masks
     sub-rest
     loop-less
     loop-again
