@@ -6,19 +6,20 @@ use Prim.Native.Nat.{ℕ, _/_, _%_, _≤_, _<_}
 use native.Mathlib.Nat.{mod-lt, div-add-mod'}
 use native.Mathlib.Omega.{arith}
 use lib.Dec.{eqb, ltb}
-use borrow.Author.Tests.{lt-ltb, le-ltb, eq-eqb, ne-eqb}
+use borrow.Author.Tests.{lt-ltb, le-ltb, eq-eqb, ne-eqb, eqb-true}
 use Rattle.xor.specs.Xor.{_⊕_, xors}
-use Rattle.xor.proofs.Cases.{by-test, by-equal, by-less, clash}
+use Rattle.xor.proofs.Cases.{by-test, by-equal, by-less, clash, either}
 use Rattle.xor.proofs.Algebra.{zero-⊕, ⊕-zero, ⊕-equal}
 use Rattle.xor.proofs.Sums.{xors-zero, xors-one}
 use Rattle.codes.specs.declared.Shape.{Shape}
 use Rattle.codes.specs.Shape.{rows, columns, cells, equations, cellNumber, WellFormed}
 use Rattle.codes.specs.Equations.{Equation, equation}
-use Rattle.codes.specs.Encoded.{parityCell, sumsCell, sumOver}
+use Rattle.codes.specs.Encoded.{parityCell, sumsCell, sumOver, Solves, total}
+use Rattle.codes.specs.Holders.{holds}
 use Rattle.codes.proofs.Shapes.{rows-low}
 use Rattle.codes.proofs.Ordered.{ordered}
 use Rattle.codes.proofs.Positions.{row-is, column-is, cell-inside, parity-of, sums-of}
-use Rattle.codes.proofs.Solutions.{Solves, plus, total, total-plus, total-zero, total-same}
+use Rattle.codes.proofs.Solutions.{plus, total-plus, total-zero, total-same}
 
 -- cell c takes part in equation q: as its parity cell, or as one that it sums
 abbrev TakesPart : Shape → ℕ → ℕ → Type 0
@@ -55,7 +56,7 @@ module _ (s : Shape) (w : WellFormed s) where
   pos : 0 < rows s
   pos = omega (arith, rows-low s w)
 
-  cell-is : (c : ℕ) → cellNumber s (c % rows s) (c / rows s) ≡ c
+  pub cell-is : (c : ℕ) → cellNumber s (c % rows s) (c / rows s) ≡ c
   unfolding cellNumber
   cell-is c = div-add-mod' c (rows s)
 
@@ -71,6 +72,12 @@ module _ (s : Shape) (w : WellFormed s) where
           ∙ parity (sym (column-is s w i j l) ∙ ap (λ (c : ℕ). c / rows s) (h ∙ parity-of s w q e is) ∙ column-is s w (e .row) (e .column) low))
           (λ h. summed i l (sym (sums-of s w q e is i j l) ∙ h));
     }
+
+  -- a cell of column j that equation q holds is in the row where they meet
+  pub meets-only : (q j r i : ℕ) → Meets s q j r → i < rows s → holds s q (cellNumber s i j) ≡ true → i ≡ r
+  unfolding holds
+  meets-only q j r i m l h =
+      m .nowhere-else i l (either (eqb (cellNumber s i j) (parityCell s q)) (sumsCell s q (cellNumber s i j)) h (λ e. inl (eqb-true (cellNumber s i j) (parityCell s q) e)) inr)
 
   -- ---- the part of an equation that lies in one column
 

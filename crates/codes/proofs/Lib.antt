@@ -9,6 +9,7 @@ pub mod Parity
 pub mod Places
 pub mod Positions
 pub mod Depends
+pub mod Held
 pub mod Paths
 pub mod Solutions
 pub mod Columns

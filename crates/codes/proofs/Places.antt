@@ -7,13 +7,16 @@ use native.Mathlib.Nat.{mul-le-mul, mul-le-mul-left, mul-le-mul-right, mul-add, 
 use native.Mathlib.Omega.{arith}
 use lib.ListN.{length, getD, set, length-set}
 use lib.Seq.{getD-set-same, getD-set-other}
+use Rattle.xor.specs.Xor.{_⊕_}
 use Rattle.xor.proofs.Cases.{by-equal, by-less, clash}
-use Rattle.xor.proofs.Sums.{xors-same}
+use Rattle.xor.proofs.Algebra.{⊕-comm}
+use Rattle.xor.proofs.Sums.{xors-same, xors-more}
 use Rattle.codes.specs.declared.Shape.{Shape}
 use Rattle.codes.specs.declared.Line.{Line}
+use Rattle.codes.specs.declared.Sources.{Sources}
 use Rattle.codes.specs.Shape.{rows, cells, equations, cellNumber, stripeLength, WellFormed}
-use Rattle.codes.specs.Encoded.{sumsCell, byteAt}
-use Rattle.codes.specs.Lines.{lineCell, Lies, Walks, Placed, Found}
+use Rattle.codes.specs.Encoded.{parityCell, sumsCell, byteAt, sumOver, total}
+use Rattle.codes.specs.Lines.{lineCell, Lies, Walks, Placed, Found, Holding}
 use Rattle.codes.proofs.Shapes.{low, cells-high, length-high}
 use Rattle.codes.proofs.Ordered.{ordered}
 
@@ -122,3 +125,28 @@ module _ (s : Shape) (w : WellFormed s) where
             xors-same (l .count) (λ k. getD stripe (getD places k 0 + t) 0) (λ k. byteAt s stripe (lineCell s l k) t) (byte-of stripe t)
             ∙ sym (h .sum (λ c. byteAt s stripe c t));
       }
+
+-- the place of the parity cell behind the others
+module _ (s : Shape) (q : ℕ) (r : Sources) (places : List ℕ) (h : Found s q r places) where
+  last : getD (set places (r .count) (r .to)) (r .count) 0 ≡ r .to
+  last = getD-set-same places (r .count) (r .to) 0 (omega (arith, h .few, h .long))
+
+  before : (k : ℕ) → k < r .count → getD (set places (r .count) (r .to)) k 0 ≡ getD places k 0
+  before k l = getD-set-other places (r .count) k (r .to) 0 (λ e. omega arith)
+
+  pub holding : Holding s q (r .count + 1) (set places (r .count) (r .to))
+  unfolding total byteAt
+  holding = record {
+    few = omega (arith, h .few);
+    long = length-set places (r .count) (r .to) ∙ h .long;
+    inside = λ k l. by-equal k (r .count)
+        (λ e. subst (λ (x : ℕ). x + s .cell ≤ stripeLength s) (sym (ap (λ (j : ℕ). getD (set places (r .count) (r .to)) j 0) e ∙ last)) (h .ends))
+        (λ n. let lk : k < r .count = omega arith in subst (λ (x : ℕ). x + s .cell ≤ stripeLength s) (sym (before k lk)) (h .inside k lk));
+    sum = λ stripe t.
+        xors-more (r .count) (λ k. getD stripe (getD (set places (r .count) (r .to)) k 0 + t) 0)
+        ∙ ap₂ _⊕_
+        (xors-same (r .count) (λ k. getD stripe (getD (set places (r .count) (r .to)) k 0 + t) 0) (λ k. getD stripe (getD places k 0 + t) 0) (λ k l. ap (λ (x : ℕ). getD stripe (x + t) 0) (before k l))
+        ∙ h .sum stripe t)
+        (ap (λ (x : ℕ). getD stripe (x + t) 0) (last ∙ h .to))
+        ∙ ⊕-comm (sumOver s q (λ c. getD stripe (c * s .cell + t) 0)) (getD stripe (parityCell s q * s .cell + t) 0);
+  }

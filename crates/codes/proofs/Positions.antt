@@ -19,7 +19,7 @@ use Rattle.codes.proofs.Residues.{wrapped, there-and-back}
 use Rattle.codes.proofs.Lines.{rdp-rows, rdp-row-is, rdp-diagonal-is, hcode-rows, hcode-row-is, hcode-anti-is, xcode-first-is, xcode-second-is}
 
 -- two families of n equations each
-families : (P : ℕ → Type 0) (n : ℕ) → ((r : ℕ) → r < n → P r) → ((d : ℕ) → d < n → P (n + d)) → (q : ℕ) → q < 2 * n → P q
+pub families : (P : ℕ → Type 0) (n : ℕ) → ((r : ℕ) → r < n → P r) → ((d : ℕ) → d < n → P (n + d)) → (q : ℕ) → q < 2 * n → P q
 families P n first second q l = by-less q n (first q) (λ k. subst P (whole k) (second (q - n) (omega arith)))
   where
     whole : n ≤ q → n + (q - n) ≡ q
@@ -66,7 +66,7 @@ module _ (s : Shape) (w : WellFormed s) where
   sums-of q e is i j l = ap (λ (x : Equation). x .sums (cellNumber s i j % rows s) (cellNumber s i j / rows s)) is ∙ ap₂ (e .sums) (row-is i j l) (column-is i j l)
 
   -- the parity cell of equation q is a parity cell, and every parity cell is one of these
-  parity-yes : (q c : ℕ) → q < equations s → parityCell s q ≡ c → isParity s c ≡ true
+  pub parity-yes : (q c : ℕ) → q < equations s → parityCell s q ≡ c → isParity s c ≡ true
   unfolding isParity
   parity-yes q c l e = any-at (equations s) (λ r. eqb (parityCell s r) c) q l (eq-eqb (parityCell s q) c e)
 
@@ -92,10 +92,10 @@ module _ (s : Shape) (w : WellFormed s) where
   -- ---- RDP
 
   module _ (is-rdp : s .code ≡ 1) where
-    rdp-n : equations s ≡ 2 * (s .p - 1)
+    pub rdp-n : equations s ≡ 2 * (s .p - 1)
     rdp-n = sym (equations-other s w (λ e. omega arith))
 
-    rdp-first : (r : ℕ) → r < s .p - 1 → parityCell s r ≡ cellNumber s r (s .p - 1)
+    pub rdp-first : (r : ℕ) → r < s .p - 1 → parityCell s r ≡ cellNumber s r (s .p - 1)
     rdp-first r l = parity-of r (rdpRow (s .p) r) (rdp-row-is s w is-rdp r l)
 
     rdp-second-is : (d : ℕ) → equation s (s .p - 1 + d) ≡ rdpDiagonal (s .p) d
@@ -104,7 +104,7 @@ module _ (s : Shape) (w : WellFormed s) where
         same : s .p - 1 + d - (s .p - 1) ≡ d
         same = omega arith
 
-    rdp-second : (d : ℕ) → d < s .p - 1 → parityCell s (s .p - 1 + d) ≡ cellNumber s d (s .p)
+    pub rdp-second : (d : ℕ) → d < s .p - 1 → parityCell s (s .p - 1 + d) ≡ cellNumber s d (s .p)
     rdp-second d l = parity-of (s .p - 1 + d) (rdpDiagonal (s .p) d) (rdp-second-is d)
 
     -- parity is in the last two columns
@@ -146,10 +146,10 @@ module _ (s : Shape) (w : WellFormed s) where
   -- ---- H-Code
 
   module _ (is-hcode : s .code ≡ 2) where
-    hcode-n : equations s ≡ 2 * (s .p - 1)
+    pub hcode-n : equations s ≡ 2 * (s .p - 1)
     hcode-n = sym (equations-other s w (λ e. omega arith))
 
-    hcode-first : (r : ℕ) → r < s .p - 1 → parityCell s r ≡ cellNumber s r (s .p)
+    pub hcode-first : (r : ℕ) → r < s .p - 1 → parityCell s r ≡ cellNumber s r (s .p)
     hcode-first r l = parity-of r (hcodeRow (s .p) r) (hcode-row-is s w is-hcode r l)
 
     hcode-second-is : (r : ℕ) → equation s (s .p - 1 + r) ≡ hcodeAntiDiagonal (s .p) r
@@ -158,7 +158,7 @@ module _ (s : Shape) (w : WellFormed s) where
         same : s .p - 1 + r - (s .p - 1) ≡ r
         same = omega arith
 
-    hcode-second : (r : ℕ) → r < s .p - 1 → parityCell s (s .p - 1 + r) ≡ cellNumber s r (r + 1)
+    pub hcode-second : (r : ℕ) → r < s .p - 1 → parityCell s (s .p - 1 + r) ≡ cellNumber s r (r + 1)
     hcode-second r l = parity-of (s .p - 1 + r) (hcodeAntiDiagonal (s .p) r) (hcode-second-is r)
 
     -- parity is in the last column, and beside the diagonal
@@ -226,13 +226,13 @@ module _ (s : Shape) (w : WellFormed s) where
   -- ---- X-Code
 
   module _ (is-xcode : s .code ≡ 3) where
-    xcode-n : equations s ≡ 2 * s .p
+    pub xcode-n : equations s ≡ 2 * s .p
     xcode-n = sym (equations-third s is-xcode)
 
-    xcode-rows : s .p ≡ rows s
+    pub xcode-rows : s .p ≡ rows s
     xcode-rows = rows-third s is-xcode
 
-    xcode-first-at : (c : ℕ) → c < s .p → parityCell s c ≡ cellNumber s (s .p - 2) c
+    pub xcode-first-at : (c : ℕ) → c < s .p → parityCell s c ≡ cellNumber s (s .p - 2) c
     xcode-first-at c l = parity-of c (xcodeFirst (s .p) c) (xcode-first-is s w is-xcode c l)
 
     xcode-family-is : (c : ℕ) → equation s (s .p + c) ≡ xcodeSecond (s .p) c
@@ -241,7 +241,7 @@ module _ (s : Shape) (w : WellFormed s) where
         same : s .p + c - s .p ≡ c
         same = omega arith
 
-    xcode-second-at : (c : ℕ) → c < s .p → parityCell s (s .p + c) ≡ cellNumber s (s .p - 1) c
+    pub xcode-second-at : (c : ℕ) → c < s .p → parityCell s (s .p + c) ≡ cellNumber s (s .p - 1) c
     xcode-second-at c l = parity-of (s .p + c) (xcodeSecond (s .p) c) (xcode-family-is c)
 
     -- parity is in the last two rows

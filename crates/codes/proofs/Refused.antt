@@ -1,17 +1,21 @@
--- Laws of the refusals of a lent stripe: each number from the tests before it, and what holds where there is none.
+-- Laws of the refusals of a lent stripe, of a small write and of calls that name cells or columns: each number from the tests before it, and what
+-- holds where there is none.
 use mathlib.Core.Path.{_≡_, refl, sym, ap, _∙_}
 use mathlib.Core.Logic.{_≢_}
-use mathlib.Core.List.{[], _∷_}
+use mathlib.Core.List.{List, [], _∷_}
 use mathlib.Core.Bool.{Bool, true, false, cond, not, _&&_, _||_}
 use Prim.Native.Nat.{ℕ, zero, suc, _≤_, _<_}
 use native.Mathlib.Omega.{arith}
-use lib.Dec.{eqb, leb}
-use borrow.Author.Tests.{eq-eqb, ne-eqb, le-leb, lt-leb, lt-ltb, le-ltb}
-use Rattle.xor.proofs.Cases.{by-test, by-equal, by-less}
+use lib.Dec.{eqb, leb, ltb}
+use lib.ListN.{length, getD}
+use borrow.Author.Tests.{eq-eqb, ne-eqb, le-leb, lt-leb, lt-ltb, le-ltb, ltb-true, not-false}
+use Rattle.xor.specs.Sets.{any}
+use Rattle.xor.proofs.Cases.{by-test, by-equal, by-less, and-left, and-right}
+use Rattle.xor.proofs.Sets.{any-none, none-any}
 use Rattle.codes.specs.declared.Shape.{Shape}
-use Rattle.codes.specs.Shape.{listed, rows, columns, cellNumber, stripeLength, WellFormed}
+use Rattle.codes.specs.Shape.{listed, rows, columns, cells, cellNumber, stripeLength, WellFormed}
 use Rattle.codes.specs.Encoded.{isParity}
-use Rattle.codes.specs.Refusals.{order, applies, firstOf, refusal, outside, stripeFaults, writeFaults}
+use Rattle.codes.specs.Refusals.{order, applies, firstOf, refusal, outside, stripeFaults, writeFaults, namingFaults, cellsFaults, columnsFaults}
 use Rattle.codes.specs.Depends.{WriteRight}
 use Rattle.codes.proofs.Shapes.{each-code}
 
@@ -87,11 +91,28 @@ accepted s bytes none =
     stop : {A : Type 0} (n : ℕ) → n ≡ refusal (stripeFaults s bytes) → 0 < n → A
     stop n e l = absurd (let same : n ≡ 0 = e ∙ none in omega arith)
 
--- ---- a small write: its own tests come after those of the stripe
+-- ---- a call with tests of its own, which come after those of the stripe
 
 orElse : ℕ → ℕ → ℕ
 orElse zero x = x
 orElse (suc n) x = suc n
+
+module _ (s : Shape) (bytes own given : ℕ) (ordering : given ≡ orElse (refusal (stripeFaults s bytes)) own) where
+  -- the stripe's refusal is given
+  given-first : (r : ℕ) → r ≡ refusal (stripeFaults s bytes) → r ≢ 0 → r ≡ given
+  unfolding orElse
+  given-first r e n = sym (ordering ∙ ap (λ (x : ℕ). orElse x own) (sym e) ∙ some-first r n)
+    where
+      some-first : (k : ℕ) → k ≢ 0 → orElse k own ≡ k
+      some-first zero n′ = absurd (n′ refl)
+      some-first (suc k) n′ = refl
+
+  -- the stripe has none
+  given-own : refusal (stripeFaults s bytes) ≡ 0 → given ≡ own
+  unfolding orElse
+  given-own right = ordering ∙ ap (λ (x : ℕ). orElse x own) right
+
+-- ---- a small write
 
 write-chain : (a b c d f g h : Bool)
     → refusal (record { number = 6; applies = f } ∷ record { number = 7; applies = g } ∷ record { number = 8; applies = h }
@@ -116,17 +137,11 @@ module _ (s : Shape) (bytes row column new : ℕ) where
       ∙ ap (λ (x : ℕ). orElse x (cond (outside s row column) 6 (cond (isParity s (cellNumber s row column)) 7 (cond (not (eqb new (s .cell))) 8 0)))) (sym (ordered s bytes))
 
   pub stripe-first : (r : ℕ) → r ≡ refusal (stripeFaults s bytes) → r ≢ 0 → r ≡ refusal (writeFaults s bytes row column new)
-  unfolding orElse
-  stripe-first r e n = sym (write-ordered ∙ ap (λ (x : ℕ). orElse x (cond (outside s row column) 6 (cond (isParity s (cellNumber s row column)) 7 (cond (not (eqb new (s .cell))) 8 0)))) (sym e) ∙ some-first r n (cond (outside s row column) 6 (cond (isParity s (cellNumber s row column)) 7 (cond (not (eqb new (s .cell))) 8 0))))
-    where
-      some-first : (k : ℕ) → k ≢ 0 → (x : ℕ) → orElse k x ≡ k
-      some-first zero n′ x = absurd (n′ refl)
-      some-first (suc k) n′ x = refl
+  stripe-first = given-first s bytes (cond (outside s row column) 6 (cond (isParity s (cellNumber s row column)) 7 (cond (not (eqb new (s .cell))) 8 0))) (refusal (writeFaults s bytes row column new)) write-ordered
 
   module _ (right : refusal (stripeFaults s bytes) ≡ 0) where
     pub write-tests : refusal (writeFaults s bytes row column new) ≡ cond (outside s row column) 6 (cond (isParity s (cellNumber s row column)) 7 (cond (not (eqb new (s .cell))) 8 0))
-    unfolding orElse
-    write-tests = write-ordered ∙ ap (λ (x : ℕ). orElse x (cond (outside s row column) 6 (cond (isParity s (cellNumber s row column)) 7 (cond (not (eqb new (s .cell))) 8 0)))) right
+    write-tests = given-own s bytes (cond (outside s row column) 6 (cond (isParity s (cellNumber s row column)) 7 (cond (not (eqb new (s .cell))) 8 0))) (refusal (writeFaults s bytes row column new)) write-ordered right
 
     pub row-outside : rows s ≤ row → 6 ≡ refusal (writeFaults s bytes row column new)
     row-outside l = rw (write-tests, le-ltb row (rows s) l) refl
@@ -161,3 +176,102 @@ write-accepted s bytes row column new none =
   where
     stop : {A : Type 0} (n : ℕ) → n ≡ refusal (writeFaults s bytes row column new) → 0 < n → A
     stop n e l = absurd (let same : n ≡ 0 = e ∙ none in omega arith)
+
+-- ---- a call that names cells or columns
+
+naming-chain : (a b c d out : Bool)
+    → refusal (record { number = 6; applies = out }
+    ∷ record { number = 1; applies = a } ∷ record { number = 2; applies = b } ∷ record { number = 4; applies = c } ∷ record { number = 5; applies = d } ∷ [])
+    ≡ orElse (cond a 1 (cond b 2 (cond c 4 (cond d 5 0)))) (cond out 6 0)
+unfolding refusal firstOf order applies orElse
+naming-chain true b c d out = refl
+naming-chain false true c d out = refl
+naming-chain false false true d out = refl
+naming-chain false false false true out = refl
+naming-chain false false false false true = refl
+naming-chain false false false false false = refl
+
+module _ (s : Shape) (bytes : ℕ) (out : Bool) where
+  naming-ordered : refusal (namingFaults s bytes out) ≡ orElse (refusal (stripeFaults s bytes)) (cond out 6 0)
+  unfolding stripeFaults
+  naming-ordered =
+      naming-chain (badCode (s .code)) (not (listed (s .p))) (badCell (s .cell)) (not (eqb bytes (stripeLength s))) out
+      ∙ ap (λ (x : ℕ). orElse x (cond out 6 0)) (sym (ordered s bytes))
+
+  naming-first : (r : ℕ) → r ≡ refusal (stripeFaults s bytes) → r ≢ 0 → r ≡ refusal (namingFaults s bytes out)
+  naming-first = given-first s bytes (cond out 6 0) (refusal (namingFaults s bytes out)) naming-ordered
+
+  module _ (right : refusal (stripeFaults s bytes) ≡ 0) where
+    naming-test : refusal (namingFaults s bytes out) ≡ cond out 6 0
+    naming-test = given-own s bytes (cond out 6 0) (refusal (namingFaults s bytes out)) naming-ordered right
+
+    naming-out : out ≡ true → 6 ≡ refusal (namingFaults s bytes out)
+    naming-out e = sym (naming-test ∙ ap (λ (b : Bool). cond b 6 0) e)
+
+    naming-in : out ≡ false → 0 ≡ refusal (namingFaults s bytes out)
+    naming-in e = sym (naming-test ∙ ap (λ (b : Bool). cond b 6 0) e)
+
+-- a call that is not refused has a right stripe, and nothing that it names is outside
+pub naming-accepted : (s : Shape) (bytes : ℕ) (out : Bool) → refusal (namingFaults s bytes out) ≡ 0 → WellFormed s × (bytes ≡ stripeLength s) × (out ≡ false)
+naming-accepted s bytes out none =
+    by-equal (refusal (stripeFaults s bytes)) 0
+    (λ right. by-test out
+    (λ e. absurd (let six : 6 ≡ 0 = naming-out s bytes out right e ∙ none in omega arith))
+    (λ e. let formed = accepted s bytes right in (formed .0, formed .1, e)))
+    (λ n. absurd (n (naming-first s bytes out (refusal (stripeFaults s bytes)) refl n ∙ none)))
+
+-- all numbers of the list are below n
+abbrev pub AllBelow : List ℕ → ℕ → Type 0
+AllBelow numbers n = (k : ℕ) → k < length numbers → getD numbers k 0 < n
+
+module _ (s : Shape) (bytes : ℕ) (numbers : List ℕ) where
+  abbrev someOut : Bool
+  someOut = any (length numbers) (λ k. not (ltb (getD numbers k 0) (cells s)))
+
+  all-in : someOut ≡ false → AllBelow numbers (cells s)
+  all-in e k l = ltb-true (getD numbers k 0) (cells s) (not-false (ltb (getD numbers k 0) (cells s)) (any-none (length numbers) (λ i. not (ltb (getD numbers i 0) (cells s))) e k l))
+
+  pub cells-first : (r : ℕ) → r ≡ refusal (stripeFaults s bytes) → r ≢ 0 → r ≡ refusal (cellsFaults s bytes numbers)
+  unfolding cellsFaults
+  cells-first = naming-first s bytes someOut
+
+  module _ (right : refusal (stripeFaults s bytes) ≡ 0) where
+    pub cells-out : (AllBelow numbers (cells s) → ⊥) → 6 ≡ refusal (cellsFaults s bytes numbers)
+    unfolding cellsFaults
+    cells-out some = naming-out s bytes someOut right (by-test someOut (λ e. e) (λ e. absurd (some (all-in e))))
+
+    pub cells-in : AllBelow numbers (cells s) → 0 ≡ refusal (cellsFaults s bytes numbers)
+    unfolding cellsFaults
+    cells-in all = naming-in s bytes someOut right (none-any (length numbers) (λ k. not (ltb (getD numbers k 0) (cells s))) (λ k l. ap not (lt-ltb (getD numbers k 0) (cells s) (all k l))))
+
+  pub cells-accepted : refusal (cellsFaults s bytes numbers) ≡ 0 → WellFormed s × (bytes ≡ stripeLength s) × AllBelow numbers (cells s)
+  unfolding cellsFaults
+  cells-accepted none = let right = naming-accepted s bytes someOut none in (right .0, right .1, all-in (right .2))
+
+module _ (s : Shape) (bytes a b : ℕ) where
+  abbrev oneOut : Bool
+  oneOut = not (ltb a (columns s) && ltb b (columns s))
+
+  pub columns-first : (r : ℕ) → r ≡ refusal (stripeFaults s bytes) → r ≢ 0 → r ≡ refusal (columnsFaults s bytes a b)
+  unfolding columnsFaults
+  columns-first = naming-first s bytes oneOut
+
+  module _ (right : refusal (stripeFaults s bytes) ≡ 0) where
+    pub first-out : columns s ≤ a → 6 ≡ refusal (columnsFaults s bytes a b)
+    unfolding columnsFaults
+    first-out l = naming-out s bytes oneOut right (rw (le-ltb a (columns s) l) refl)
+
+    pub second-out : a < columns s → columns s ≤ b → 6 ≡ refusal (columnsFaults s bytes a b)
+    unfolding columnsFaults
+    second-out la l = naming-out s bytes oneOut right (rw (lt-ltb a (columns s) la, le-ltb b (columns s) l) refl)
+
+    pub columns-in : a < columns s → b < columns s → 0 ≡ refusal (columnsFaults s bytes a b)
+    unfolding columnsFaults
+    columns-in la lb = naming-in s bytes oneOut right (rw (lt-ltb a (columns s) la, lt-ltb b (columns s) lb) refl)
+
+  pub columns-accepted : refusal (columnsFaults s bytes a b) ≡ 0 → WellFormed s × (bytes ≡ stripeLength s) × (a < columns s) × (b < columns s)
+  unfolding columnsFaults
+  columns-accepted none =
+      let right = naming-accepted s bytes oneOut none in
+      let both = not-false (ltb a (columns s) && ltb b (columns s)) (right .2) in
+      (right .0, right .1, ltb-true a (columns s) (and-left (ltb a (columns s)) (ltb b (columns s)) both), ltb-true b (columns s) (and-right (ltb a (columns s)) (ltb b (columns s)) both))

@@ -65,6 +65,10 @@ each-code P x1 x2 x3 code lo hi =
 pub hcode-left : (s : Shape) → WellFormed s → s .code ≢ 1 → s .code ≢ 3 → s .code ≡ 2
 hcode-left s w n1 n3 = omega (arith, w .codeLow, w .codeHigh)
 
+-- what is neither X-Code nor H-Code is RDP
+pub rdp-left : (s : Shape) → WellFormed s → s .code ≢ 3 → s .code ≢ 2 → s .code ≡ 1
+rdp-left s w n3 n2 = omega (arith, w .codeLow, w .codeHigh)
+
 -- ---- rows, columns and equations, as the code works them out
 
 module _ (s : Shape) where
@@ -85,9 +89,9 @@ module _ (s : Shape) where
   unfolding cells
   cells-of a b p q = ap₂ _*_ p q
 
-  pub length-of : (a b : ℕ) → a ≡ columns s → b ≡ rows s → a * b * s .cell ≡ stripeLength s
+  pub length-of : (n : ℕ) → n ≡ cells s → n * s .cell ≡ stripeLength s
   unfolding stripeLength
-  length-of a b p q = ap (λ (n : ℕ). n * s .cell) (cells-of a b p q)
+  length-of n e = ap (λ (k : ℕ). k * s .cell) e
 
   module _ (w : WellFormed s) where
     not-third : (P : ℕ → Type 0) → P 1 → P 2 → s .code ≢ 3 → P (s .code)
@@ -125,11 +129,14 @@ module _ (s : Shape) where
     pub small-equations : equations s ≤ 62
     small-equations = by-equal (s .code) 3 (λ e. omega (arith, equations-third e, high)) (λ n. omega (arith, equations-other n, high))
 
-    pub cells-high : cells s ≤ 992
+    pub cells-high : cells s ≤ 961
     unfolding cells
-    cells-high = mul-le-mul columns-high rows-high
+    cells-high =
+        by-equal (s .code) 3
+        (λ e. let wide : columns s ≤ 31 = omega (arith, columns-third e, high) in mul-le-mul wide rows-high)
+        (λ n. let tall : rows s ≤ 30 = omega (arith, rows-other n, high) in omega (arith, mul-le-mul columns-high tall))
 
-    pub length-high : stripeLength s ≤ 4063232
+    pub length-high : stripeLength s ≤ 3936256
     unfolding stripeLength
     length-high = mul-le-mul cells-high (w .cellHigh)
 

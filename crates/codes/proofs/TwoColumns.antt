@@ -1,31 +1,38 @@
--- Any two columns are determined by the rest, in all three codes; so at most one column can be named bad.
+-- In all three codes an equation holds at most one cell of a column, and any two columns are determined by the rest; so at most one column can be named bad.
 use mathlib.Core.Path.{_≡_, sym, _∙_}
 use mathlib.Core.Logic.{_≢_}
+use mathlib.Core.Bool.{true}
 use Prim.Native.Nat.{ℕ, _/_, _≤_, _<_}
 use native.Mathlib.Omega.{arith}
 use Rattle.xor.proofs.Cases.{by-equal, by-less}
 use Rattle.xor.proofs.Algebra.{⊕-equal, equal-⊕}
 use Rattle.codes.specs.declared.Shape.{Shape}
-use Rattle.codes.specs.Shape.{rows, columns, cells, WellFormed}
+use Rattle.codes.specs.Shape.{rows, columns, cells, equations, cellNumber, WellFormed}
+use Rattle.codes.specs.Encoded.{Solves}
+use Rattle.codes.specs.Holders.{holds}
 use Rattle.codes.proofs.Shapes.{low, columns-third, columns-other}
-use Rattle.codes.proofs.Solutions.{Solves, plus, solves-plus, solves-same}
-use Rattle.codes.proofs.Columns.{OnTwo}
-use Rattle.codes.proofs.TwoRdp.{two-rdp}
-use Rattle.codes.proofs.TwoHcode.{two-hcode}
-use Rattle.codes.proofs.TwoXcode.{two-xcode}
+use Rattle.codes.proofs.Solutions.{plus, solves-plus, solves-same}
+use Rattle.codes.proofs.Columns.{Meets, OnTwo, meets-only}
+use Rattle.codes.proofs.TwoRdp.{rdp-meets, two-rdp}
+use Rattle.codes.proofs.TwoHcode.{hcode-meets, two-hcode}
+use Rattle.codes.proofs.TwoXcode.{xcode-meets, two-xcode}
 
 module _ (s : Shape) (w : WellFormed s) where
   columns-low : 3 ≤ columns s
   columns-low = by-equal (s .code) 3 (λ e. omega (arith, columns-third s e, low s w)) (λ n. omega (arith, columns-other s w n, low s w))
+
+  third : s .code ≢ 1 → s .code ≢ 2 → s .code ≡ 3
+  third m n = omega (arith, w .codeLow, w .codeHigh)
+
+  -- every equation and every column meet in one row, or in none
+  all-meet : (q j : ℕ) → q < equations s → j < columns s → (r : ℕ) × Meets s q j r
+  all-meet = by-equal (s .code) 1 (rdp-meets s w) (λ m. by-equal (s .code) 2 (hcode-meets s w) (λ n. xcode-meets s w (third m n)))
 
   -- in each code
   in-order : (v : ℕ → ℕ) (a b : ℕ) → OnTwo s v a b → a < b → b < columns s → (c : ℕ) → c < cells s → v c ≡ 0
   in-order =
       by-equal (s .code) 1 (two-rdp s w)
       (λ m. by-equal (s .code) 2 (two-hcode s w) (λ n. two-xcode s w (third m n)))
-    where
-      third : s .code ≢ 1 → s .code ≢ 2 → s .code ≡ 3
-      third m n = omega (arith, w .codeLow, w .codeHigh)
 
   -- a solution that is 0 off two columns, or off one, is 0 everywhere
   pub two-columns : (v : ℕ → ℕ) → Solves s v → (a b : ℕ) → a < columns s → b < columns s
@@ -60,3 +67,10 @@ module _ (s : Shape) (w : WellFormed s) where
           by-equal (c / rows s) a
           (λ e. two-columns-determined f g hf hg a b la lb (λ d ld n m. fx d ld n ∙ sym (gx d ld m)) c l ∙ gx c l (λ q. ne (sym e ∙ q)))
           (fx c l)
+
+-- an equation holds at most one cell of a column
+pub one-in-column : (s : Shape) → WellFormed s → (q : ℕ) → q < equations s → (row row′ column : ℕ) → row < rows s → row′ < rows s → column < columns s
+    → holds s q (cellNumber s row column) ≡ true → holds s q (cellNumber s row′ column) ≡ true → row ≡ row′
+one-in-column s w q lq row row′ column l l′ lc h h′ =
+    let at = all-meet s w q column lq lc in
+    meets-only s w q column (at .0) row (at .1) l h ∙ sym (meets-only s w q column (at .0) row′ (at .1) l′ h′)

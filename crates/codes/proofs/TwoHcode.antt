@@ -15,6 +15,7 @@ use Rattle.codes.specs.Equations.{equation, hcodeRow, hcodeAntiDiagonal}
 use Rattle.codes.proofs.Shapes.{columns-other, equations-other}
 use Rattle.codes.proofs.Residues.{there-and-back}
 use Rattle.codes.proofs.Lines.{hcode-rows, hcode-row-is, hcode-anti-is}
+use Rattle.codes.proofs.Positions.{families}
 use Rattle.codes.proofs.Paths.{shift-once, shift-from, shift-on, along-path}
 use Rattle.codes.proofs.Columns.{Meets, OnTwo, entry, entry-out, meets, balanced, all-zero}
 
@@ -155,6 +156,14 @@ module _ (s : Shape) (w : WellFormed s) (is-hcode : s .code ≡ 2) where
   anti-ends r lr =
       meets s w (s .p - 1 + r) (hcodeAntiDiagonal (s .p) r) (anti-is r) (omega (arith, height)) (s .p) (s .p)
       (λ l. absurd (omega (arith, height))) (λ e. absurd (omega arith)) (λ i l t. let small = anti-below r i (s .p) t in absurd (omega arith))
+
+  pub hcode-meets : (q j : ℕ) → q < equations s → j < columns s → (r : ℕ) × Meets s q j r
+  hcode-meets q j lq lj =
+      families (λ k. (r : ℕ) × Meets s k j r) (s .p - 1)
+      (λ r l. by-equal j (s .p) (λ e. (r, subst (λ (x : ℕ). Meets s r x r) (sym e) (row-ends r l))) (λ n. (place (s .p) j r, row-meets r j l (omega (arith, width)))))
+      (λ r l. by-equal j (s .p) (λ e. (s .p, subst (λ (x : ℕ). Meets s (s .p - 1 + r) x (s .p)) (sym e) (anti-ends r l)))
+      (λ n. let at = shift-from (s .p) (r + 2) j (omega (arith, width)) in (place (s .p) j (at .0), anti-meets r j (at .0) l (omega (arith, width)) (at .1) (at .2))))
+      q (omega (arith, equations-other s w (λ e. omega arith)))
 
   -- the anti-diagonal that passes column j in place k
   anti-through : (j k : ℕ) → j < s .p → k < s .p → (k + 1) % s .p ≢ j → (r : ℕ) × (r < s .p - 1) × ((k + (r + 2)) % s .p ≡ j)

@@ -14,6 +14,7 @@ use Rattle.codes.specs.Shape.{rows, columns, cells, equations, WellForme
 use Rattle.codes.specs.Equations.{equation, rdpRow, rdpDiagonal}
 use Rattle.codes.proofs.Shapes.{low, columns-other, equations-other}
 use Rattle.codes.proofs.Lines.{rdp-rows, rdp-row-is, rdp-diagonal-is}
+use Rattle.codes.proofs.Positions.{families}
 use Rattle.codes.proofs.Paths.{shift-once, shift-from, along-path}
 use Rattle.codes.proofs.Columns.{Meets, OnTwo, entry, entry-out, meets, balanced, all-zero}
 
@@ -66,6 +67,14 @@ module _ (s : Shape) (w : WellFormed s) (is-rdp : s .code ≡ 1) where
       meets s w (s .p - 1 + d) (rdpDiagonal (s .p) d) (diagonal-is d) (omega (arith, height)) (s .p) d
       (λ l. inl (refl, refl)) (λ e. refl)
       (λ i l t. let small = ltb-true (s .p) (s .p) (and-left (ltb (s .p) (s .p)) (ltb i (s .p - 1) && eqb ((i + s .p) % s .p) d) t) in absurd (omega arith))
+
+  pub rdp-meets : (q j : ℕ) → q < equations s → j < columns s → (r : ℕ) × Meets s q j r
+  rdp-meets q j lq lj =
+      families (λ k. (r : ℕ) × Meets s k j r) (s .p - 1)
+      (λ r l. by-equal j (s .p) (λ e. (rows s, subst (λ (x : ℕ). Meets s r x (rows s)) (sym e) (row-ends r l))) (λ n. (r, row-meets r j l (omega (arith, width)))))
+      (λ d l. by-equal j (s .p) (λ e. (d, subst (λ (x : ℕ). Meets s (s .p - 1 + d) x d) (sym e) (diagonal-ends d l)))
+      (λ n. let at = shift-from (s .p) j d (omega arith) in (at .0, diagonal-meets d j (at .0) l (omega (arith, width)) (at .1) (at .2))))
+      q (omega (arith, equations-other s w (λ e. omega arith)))
 
   -- ---- two columns below p
 

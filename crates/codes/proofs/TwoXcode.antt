@@ -9,10 +9,11 @@ use lib.Dec.{eqb, ltb}
 use borrow.Author.Tests.{lt-ltb, eq-eqb, ne-eqb, ltb-true, eqb-true}
 use Rattle.xor.proofs.Cases.{by-equal, and-left, and-right, and-both}
 use Rattle.codes.specs.declared.Shape.{Shape}
-use Rattle.codes.specs.Shape.{rows, columns, cells, WellFormed}
+use Rattle.codes.specs.Shape.{rows, columns, cells, equations, WellFormed}
 use Rattle.codes.specs.Equations.{Equation, equation, xcodeSecond}
 use Rattle.codes.proofs.Shapes.{low, rows-third, columns-third, equations-third}
 use Rattle.codes.proofs.Lines.{xcode-first-is, xcode-second-is}
+use Rattle.codes.proofs.Positions.{families}
 use Rattle.codes.proofs.Paths.{shift-once, shift-from, shift-on, along-path}
 use Rattle.codes.proofs.Columns.{Meets, OnTwo, entry, entry-out, meets, balanced, all-zero}
 
@@ -124,6 +125,13 @@ module _ (s : Shape) (w : WellFormed s) (is-xcode : s .code ≡ 3) where
         where
           whole : s .p + c - i - 2 + (i + 2) ≡ c + s .p
           whole = omega arith
+
+  pub xcode-meets : (q j : ℕ) → q < equations s → j < columns s → (r : ℕ) × Meets s q j r
+  xcode-meets q j lq lj =
+      families (λ k. (r : ℕ) × Meets s k j r) (s .p)
+      (λ c l. let at = shift-from (s .p) (c + 2) j (omega (arith, width)) in (place (s .p) (s .p - 2) (at .0), first-meets c j (at .0) l (at .1) (at .2)))
+      (λ c l. let at = shift-from (s .p) (j + 2) c l in (place (s .p) (s .p - 1) (at .0), second-meets c j (at .0) l (omega (arith, width)) (at .1) (at .2)))
+      q (omega (arith, equations-third s is-xcode))
 
   -- ---- the two families in one column
 

@@ -5,7 +5,7 @@ use mathlib.Core.Bool.{Bool, cond, not}
 use Prim.Native.Nat.{ℕ, _+_, _*_, _/_, _%_, _<_}
 use lib.Dec.{eqb}
 use lib.ListN.{getD}
-use Rattle.xor.specs.Xor.{xors}
+use Rattle.xor.specs.Xor.{_⊕_, xors}
 use Rattle.xor.specs.Sets.{any, count}
 use Rattle.codes.specs.declared.Shape.{Shape}
 use Rattle.codes.specs.Shape.{rows, cells, equations, cellNumber}
@@ -26,6 +26,14 @@ byteAt s stripe c t = getD stripe (c * s .cell + t) 0
 -- the XOR of f c over the cells c that equation q sums
 unfoldable pub sumOver : Shape → ℕ → (ℕ → ℕ) → ℕ
 sumOver s q f = xors (cells s) (λ c. cond (sumsCell s q c) (f c) 0)
+
+-- the XOR of f c over all cells c of equation q, its parity cell too
+unfoldable pub total : Shape → ℕ → (ℕ → ℕ) → ℕ
+total s q f = f (parityCell s q) ⊕ sumOver s q f
+
+-- v has the right value in every parity cell: one value for each cell
+abbrev pub Solves : Shape → (ℕ → ℕ) → Type 0
+Solves s v = (q : ℕ) → q < equations s → v (parityCell s q) ≡ sumOver s q v
 
 -- the XOR of byte t of the cells that equation q sums
 abbrev pub parityByte : Shape → List ℕ → ℕ → ℕ → ℕ

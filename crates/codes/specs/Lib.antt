@@ -4,3 +4,4 @@ pub mod Encoded
 pub mod Refusals
 pub mod Lines
 pub mod Depends
+pub mod Holders

@@ -10,7 +10,7 @@ use Rattle.codes.specs.declared.Shape.{Shape}
 use Rattle.codes.specs.declared.Line.{Line}
 use Rattle.codes.specs.declared.Sources.{Sources}
 use Rattle.codes.specs.Shape.{cells, cellNumber, stripeLength}
-use Rattle.codes.specs.Encoded.{parityCell, sumsCell, sumOver, parityByte}
+use Rattle.codes.specs.Encoded.{parityCell, sumsCell, byteAt, sumOver, total, parityByte}
 
 -- cell k of a line: its row is row + fall * k, and its column is column + step * k mod p
 unfoldable pub lineCell : Shape → Line → ℕ → ℕ
@@ -39,9 +39,16 @@ pub record Placed (s : Shape) (l : Line) (places : List ℕ) : Type 0 where
 -- r has the place of the parity cell of equation q, and `places` begins with the places of the cells that it sums
 pub record Found (s : Shape) (q : ℕ) (r : Sources) (places : List ℕ) : Type 0 where
   pub to : r .to ≡ parityCell s q * s .cell
-  pub few : r .count ≤ 32
+  pub few : r .count < 32
   pub long : length places ≡ 32
   pub ends : r .to + s .cell ≤ stripeLength s
   pub inside : (k : ℕ) → k < r .count → getD places k 0 + s .cell ≤ stripeLength s
   pub apart : (k : ℕ) → k < r .count → (getD places k 0 + s .cell ≤ r .to) ⊎ (r .to + s .cell ≤ getD places k 0)
   pub sum : (stripe : List ℕ) (t : ℕ) → xors (r .count) (λ k. getD stripe (getD places k 0 + t) 0) ≡ parityByte s stripe q t
+
+-- `places` begins with the places of the n cells of equation q, its parity cell too
+pub record Holding (s : Shape) (q n : ℕ) (places : List ℕ) : Type 0 where
+  pub few : n ≤ 32
+  pub long : length places ≡ 32
+  pub inside : (k : ℕ) → k < n → getD places k 0 + s .cell ≤ stripeLength s
+  pub sum : (stripe : List ℕ) (t : ℕ) → xors n (λ k. getD stripe (getD places k 0 + t) 0) ≡ total s q (λ c. byteAt s stripe c t)

@@ -3,8 +3,10 @@ use mathlib.Core.List.{List, [], _∷_}
 use mathlib.Core.Bool.{Bool, false, cond, not, _&&_, _||_}
 use Prim.Native.Nat.{ℕ}
 use lib.Dec.{eqb, leb, ltb}
+use lib.ListN.{length, getD}
+use Rattle.xor.specs.Sets.{any}
 use Rattle.codes.specs.declared.Shape.{Shape}
-use Rattle.codes.specs.Shape.{listed, rows, columns, cellNumber, stripeLength}
+use Rattle.codes.specs.Shape.{listed, rows, columns, cells, cellNumber, stripeLength}
 use Rattle.codes.specs.Encoded.{isParity}
 
 -- a refusal's number, and whether it applies
@@ -50,3 +52,15 @@ writeFaults s bytes row column new =
     ∷ record { number = 7; applies = isParity s (cellNumber s row column) }
     ∷ record { number = 8; applies = not (eqb new (s .cell)) }
     ∷ stripeFaults s bytes
+
+-- the refusals of a call that names cells or columns, by whether one of them is outside, besides those of the stripe
+abbrev pub namingFaults : Shape → ℕ → Bool → List Fault
+namingFaults s bytes out = record { number = 6; applies = out } ∷ stripeFaults s bytes
+
+-- the refusals of a rebuild of the cells that a list names
+unfoldable pub cellsFaults : Shape → ℕ → List ℕ → List Fault
+cellsFaults s bytes numbers = namingFaults s bytes (any (length numbers) (λ k. not (ltb (getD numbers k 0) (cells s))))
+
+-- the refusals of a rebuild of two columns
+unfoldable pub columnsFaults : Shape → ℕ → ℕ → ℕ → List Fault
+columnsFaults s bytes a b = namingFaults s bytes (not (ltb a (columns s) && ltb b (columns s)))

@@ -1,13 +1,15 @@
 // The shape of a stripe, the published equations of RDP, H-Code and X-Code, and the refusals that every call on a stripe shares.
 ghost use mathlib.Core.Path.{_≡_};
 ghost use mathlib.Core.Bool.{false};
-ghost use Prim.Native.Nat.{_+_, _*_, _%_, _≤_, _<_};
-ghost use lib.ListN.{length};
-ghost use Rattle.codes.specs.Shape.{listed, rows, columns, equations, cellNumber, stripeLength, WellFormed};
+ghost use Prim.Native.Nat.{ℕ, _+_, _*_, _%_, _≤_, _<_};
+ghost use lib.ListN.{length, getD};
+ghost use Rattle.xor.specs.Runs.{Says};
+ghost use Rattle.codes.specs.Shape.{listed, rows, columns, cells, equations, cellNumber, stripeLength, WellFormed};
 ghost use Rattle.codes.specs.Encoded.{parityCell, isParity};
-ghost use Rattle.codes.specs.Refusals.{refusal, stripeFaults, writeFaults};
-ghost use Rattle.codes.specs.Lines.{Lies, Walks, Placed, Found};
+ghost use Rattle.codes.specs.Refusals.{refusal, stripeFaults, writeFaults, cellsFaults, columnsFaults};
+ghost use Rattle.codes.specs.Lines.{Lies, Walks, Placed, Found, Holding};
 ghost use Rattle.codes.specs.Depends.{DataCell, DependOn};
+ghost use Rattle.codes.specs.Holders.{ParityCell, HeldBy};
 
 // What describes a stripe: the code (1 RDP, 2 H-Code, 3 X-Code), the prime, and the bytes in a cell. Any numbers may stand here.
 #[repr(C)]
@@ -40,6 +42,13 @@ pub struct Dependents {
     pub first: usize,
     pub second: usize,
     pub third: usize,
+}
+
+// The numbers of the equations that hold a cell, as their parity cell or as one that they sum.
+// Where there is only one, the second is the number past the last equation's.
+pub struct Holders {
+    pub first: usize,
+    pub second: usize,
 }
 
 // Whether p is one of the ten primes.
@@ -88,12 +97,20 @@ pub fn equation_count(shape: Shape) -> usize
     }
 }
 
+// Cells of a stripe.
+pub fn cell_count(shape: Shape) -> usize
+    requires { ⌜ WellFormed shape ⌝ }
+    ensures { λ r. ⌜ r ≡ cells shape ⌝ }
+{
+    column_count(shape) * row_count(shape)
+}
+
 // The length of a stripe in bytes.
 pub fn stripe_bytes(shape: Shape) -> usize
     requires { ⌜ WellFormed shape ⌝ }
     ensures { λ r. ⌜ r ≡ stripeLength shape ⌝ }
 {
-    column_count(shape) * row_count(shape) * shape.cell
+    cell_count(shape) * shape.cell
 }
 
 // The refusal of a call on a lent stripe of so many bytes: the lowest number that applies, or 0.
@@ -261,6 +278,17 @@ pub fn sources_of(shape: Shape, q: usize, places: &mut [usize; 32]) -> Sources
     Sources { to, count }
 }
 
+// Fills in where all cells of equation q start, those that it sums and then its parity cell, and answers how many they are.
+pub fn cells_of(shape: Shape, q: usize, places: &mut [usize; 32]) -> usize
+    requires { ⌜ WellFormed shape × (q < equations shape) × (length (now places) ≡ 32) ⌝ }
+    ensures { λ r. ⌜ Holding shape q r (now (places .exit)) ⌝ }
+{
+    let from = sources_of(shape, q, places);
+    let count = from.count;
+    places[count] = from.to;
+    count + 1
+}
+
 // Where in the stripe's bytes the parity cell of equation q starts.
 pub fn parity_place(shape: Shape, q: usize) -> usize
     requires { ⌜ WellFormed shape × (q < equations shape) ⌝ }
@@ -296,6 +324,52 @@ pub fn write_refusal(shape: Shape, bytes: usize, row: usize, column: usize, new:
     }
     if new != shape.cell {
         return 8;
+    }
+    0
+}
+
+// Whether all numbers of a list are below n.
+fn all_below(numbers: &[usize], n: usize) -> bool
+    ensures { λ r. ⌜ Says ((k : ℕ) → k < length (now (numbers .entry)) → getD (now (numbers .entry)) k 0 < n) r ⌝ }
+{
+    let mut k = 0;
+    while k < numbers.len() {
+        if n <= numbers[k] {
+            return false;
+        }
+        k += 1;
+    }
+    true
+}
+
+// The refusal of a rebuild of the cells that a list names: the lowest number that applies, or 0.
+pub fn cells_refusal(shape: Shape, bytes: usize, lost: &[usize]) -> usize
+    ensures { λ r. ⌜ r ≡ refusal (cellsFaults shape bytes (now (lost .entry))) ⌝ }
+{
+    let refusal = stripe_refusal(shape, bytes);
+    if refusal != 0 {
+        return refusal;
+    }
+    if !all_below(lost, cell_count(shape)) {
+        return 6;
+    }
+    0
+}
+
+// The refusal of a rebuild of two columns: the lowest number that applies, or 0.
+pub fn columns_refusal(shape: Shape, bytes: usize, a: usize, b: usize) -> usize
+    ensures { λ r. ⌜ r ≡ refusal (columnsFaults shape bytes a b) ⌝ }
+{
+    let refusal = stripe_refusal(shape, bytes);
+    if refusal != 0 {
+        return refusal;
+    }
+    let n = column_count(shape);
+    if n <= a {
+        return 6;
+    }
+    if n <= b {
+        return 6;
     }
     0
 }
@@ -371,4 +445,62 @@ pub fn dependents_of(shape: Shape, row: usize, column: usize) -> Dependents
         return hcode_dependents(shape, row, column);
     }
     xcode_dependents(shape, row, column)
+}
+
+// The equations that hold a parity cell: its own, and of RDP's row parity the diagonal.
+fn parity_holders(shape: Shape, row: usize, column: usize) -> Holders
+    requires { ⌜ WellFormed shape × ParityCell shape row column ⌝ }
+    ensures { λ r. ⌜ HeldBy shape (cellNumber shape row column) r ⌝ }
+{
+    let p = shape.p;
+    let n = p - 1;
+    if shape.code == 3 {
+        if row == n {
+            return Holders {
+                first: p + column,
+                second: 2 * p,
+            };
+        }
+        return Holders {
+            first: column,
+            second: 2 * p,
+        };
+    }
+    if shape.code == 2 {
+        if column == p {
+            return Holders {
+                first: row,
+                second: 2 * n,
+            };
+        }
+        return Holders {
+            first: n + row,
+            second: 2 * n,
+        };
+    }
+    if column == p {
+        return Holders {
+            first: n + row,
+            second: 2 * n,
+        };
+    }
+    Holders {
+        first: row,
+        second: n + turned(row, n, p),
+    }
+}
+
+// The equations that hold the cell in a row and a column.
+pub fn holders_of(shape: Shape, row: usize, column: usize) -> Holders
+    requires { ⌜ WellFormed shape × (row < rows shape) × (column < columns shape) ⌝ }
+    ensures { λ r. ⌜ HeldBy shape (cellNumber shape row column) r ⌝ }
+{
+    if is_parity(shape, row, column) {
+        return parity_holders(shape, row, column);
+    }
+    let d = dependents_of(shape, row, column);
+    Holders {
+        first: d.first,
+        second: d.second,
+    }
 }

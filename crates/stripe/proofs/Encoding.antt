@@ -14,10 +14,9 @@ use Rattle.xor.proofs.Cases.{by-test, by-equal, by-less, clash}
 use Rattle.xor.proofs.Sets.{any-at, any-some}
 use Rattle.codes.specs.declared.Shape.{Shape}
 use Rattle.codes.specs.Shape.{cells, equations, stripeLength, WellFormed}
-use Rattle.codes.specs.Encoded.{parityCell, sumsCell, sumOver, byteAt, isParity, Encoded}
+use Rattle.codes.specs.Encoded.{parityCell, sumsCell, sumOver, Solves, byteAt, isParity, Encoded}
 use Rattle.codes.proofs.Ordered.{ordered}
 use Rattle.codes.proofs.Parity.{sum-same, same-bytes}
-use Rattle.codes.proofs.Solutions.{Solves}
 use Rattle.stripe.specs.Encode.{EncodingOf, ParitySet}
 
 -- f after the parity cells of the first q equations are set, one after the other

@@ -7,3 +7,4 @@ pub mod Writing
 pub mod Exists
 pub mod OneAnswer
 pub mod WriteFacts
+pub mod BrokenFacts

@@ -16,11 +16,11 @@ use Rattle.xor.proofs.Sets.{any-at, count-same, count-insert, count-never}
 use Rattle.codes.specs.declared.Shape.{Shape}
 use Rattle.codes.specs.declared.Dependents.{Dependents}
 use Rattle.codes.specs.Shape.{cells, equations, WellFormed}
-use Rattle.codes.specs.Encoded.{parityCell, sumsCell, sumOver, isParity}
+use Rattle.codes.specs.Encoded.{parityCell, sumsCell, sumOver, Solves, isParity}
 use Rattle.codes.specs.Depends.{DependOn}
 use Rattle.codes.proofs.Ordered.{ordered}
 use Rattle.codes.proofs.Parity.{sum-same}
-use Rattle.codes.proofs.Solutions.{Solves, plus, sum-plus}
+use Rattle.codes.proofs.Solutions.{plus, sum-plus}
 use Rattle.stripe.specs.Parts.{part}
 
 -- x in cell c, and 0 elsewhere

@@ -65,7 +65,7 @@ pub fn encode(shape: Shape, stripe: &mut [u8]) -> usize
 }
 
 // Whether equation q fails in at least one byte.
-fn equation_fails(shape: Shape, stripe: &[u8], q: usize) -> bool
+pub fn equation_fails(shape: Shape, stripe: &[u8], q: usize) -> bool
     requires { ⌜ WellFormed shape × (length (now stripe) ≡ stripeLength shape) × (q < equations shape) ⌝ }
     ensures { λ r. ⌜ r ≡ fails shape (now (stripe .entry)) q ⌝ }
 {

@@ -1,7 +1,7 @@
 -- `stripe::equation_fails` meets its contract. The equation fails where the run at its parity cell is not the XOR of the others.
 use mathlib.Core.Path.{sym}
 use native.Mathlib.Omega.{arith}
-use Rattle.stripe.proofs.Steps.{used-long, used-inside, fails-is}
+use Rattle.stripe.proofs.Steps.{used-long, used-inside, fails-used}
 use borrow.Author.Needs.{needs}
 use Rattle.stripe.proofs.equation_fails.Statement.{statement}
 use Rattle.stripe.proofs.equation_fails.Tie as tie
@@ -19,7 +19,7 @@ is-sum-requires : tie.Need-is-sum-requires
 is-sum-requires c κs = (used-inside (c .before .before .before .before .args .shape) (c .before .before .before .before .pre .0) (c .before .before .before .before .args .q) _ _ (c .before .sources-of .ensures) _ (c .before .before .before .before .pre .1), omega (arith, c .before .sources-of .ensures .ends, c .before .before .before .before .pre .1))
 
 returns : tie.Need-returns
-returns c = fails-is (c .before .before .before .before .before .args .shape) (c .before .before .before .before .before .pre .0) (c .before .before .before .before .before .args .q) _ _ (c .before .before .sources-of .ensures) _ _ (c .is-sum .ensures)
+returns c = fails-used (c .before .before .before .before .before .args .shape) (c .before .before .before .before .before .pre .0) (c .before .before .before .before .before .args .q) _ _ (c .before .before .sources-of .ensures) _ _ (c .is-sum .ensures)
 
 pub equation-fails-spec : {M : Type 1} → statement M
 equation-fails-spec =
