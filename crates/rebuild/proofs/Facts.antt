@@ -1,0 +1,131 @@
+-- What follows from the contracts of a rebuild: stripes that come back, the cell size and undetermined cells, and a list that names no cell.
+use mathlib.Core.Path.{_≡_, refl, sym, ap, subst}
+use mathlib.Core.Logic.{_≢_}
+use mathlib.Core.List.{List, []}
+use mathlib.Core.Bool.{Bool, true, false, not}
+use Prim.Native.Nat.{ℕ, _+_, _*_, _≤_, _<_}
+use lib.Dec.{eqb}
+use lib.ListN.{length, getD}
+use borrow.Author.Tests.{eq-eqb, eqb-true, not-false}
+use Rattle.xor.specs.Sets.{any}
+use Rattle.xor.proofs.Cases.{by-test, by-equal, clash}
+use Rattle.xor.proofs.Sets.{any-none, any-some}
+use Rattle.codes.specs.declared.Shape.{Shape}
+use Rattle.codes.specs.Shape.{rows, columns, equations, cells, cellNumber, stripeLength, WellFormed}
+use Rattle.codes.specs.Equations.{equation}
+use Rattle.codes.specs.Encoded.{parityCell, sumsCell, sumOver, Solves, byteAt, Encoded}
+use Rattle.codes.specs.Refusals.{refusal, cellsFaults, columnsFaults}
+use Rattle.codes.proofs.Refused.{cells-accepted, columns-accepted}
+use Rattle.codes.proofs.Ordered.{ordered}
+use Rattle.codes.proofs.Parity.{same-bytes}
+use Rattle.rebuild.specs.Survivors.{Agree, Undetermined, Restores}
+use Rattle.rebuild.specs.Rebuild.{Decides, named, RebuildsCells, inColumns, RebuildsColumns}
+use Rattle.rebuild.specs.Lanes.{bytesAt}
+use Rattle.rebuild.proofs.Stripes.{two-solutions}
+use Rattle.rebuild.proofs.OneAnswer.{restored-one}
+use Rattle.rebuild.proofs.Never.{columns-determined}
+
+-- ---- an encoded stripe that agrees with the survivors comes back
+
+come-back : (s : Shape) → WellFormed s → (lost : ℕ → Bool) → (Undetermined s lost → ⊥) → (old x : List ℕ) → Restores s lost old x → (answer : ℕ) (new : List ℕ)
+    → Decides s lost old answer new → (answer ≡ 0) × (new ≡ x)
+come-back s w lost determined old x restores answer new h =
+    let done = h .done (λ e. determined (h .eleven e)) (λ e. h .twelve e x restores) in
+    (done .0, restored-one s w lost determined old new x (done .1) restores)
+
+pub cells-come-back : (s : Shape) (numbers old x : List ℕ) → refusal (cellsFaults s (length old) numbers) ≡ 0 → (Undetermined s (named numbers) → ⊥)
+    → Restores s (named numbers) old x → (answer : ℕ) (new : List ℕ) → RebuildsCells s numbers old answer new → (answer ≡ 0) × (new ≡ x)
+cells-come-back s numbers old x right determined restores answer new h =
+    come-back s (cells-accepted s (length old) numbers right .0) (named numbers) determined old x restores answer new (h .decides right)
+
+pub columns-come-back : (s : Shape) (a b : ℕ) (old x : List ℕ) → refusal (columnsFaults s (length old) a b) ≡ 0
+    → Restores s (inColumns s a b) old x → (answer : ℕ) (new : List ℕ) → RebuildsColumns s a b old answer new → (answer ≡ 0) × (new ≡ x)
+columns-come-back s a b old x right restores answer new h =
+    let formed = columns-accepted s (length old) a b right in
+    come-back s (formed .0) (inColumns s a b) (columns-determined s (formed .0) a b (formed .2) (formed .3)) old x restores answer new (h .rebuilds .decides right)
+
+-- ---- undetermined is a matter of the equations and the lost cells, whatever the cell size
+
+-- a byte of a cell in which two stripes differ
+record Differ (s : Shape) (a b : List ℕ) : Type 0 where
+  cell : ℕ
+  byte : ℕ
+  cellIn : cell < cells s
+  byteIn : byte < s .cell
+  differ : byteAt s a cell byte ≢ byteAt s b cell byte
+
+differ-at : (s : Shape) → WellFormed s → (a b : List ℕ) → length a ≡ stripeLength s → length b ≡ stripeLength s → a ≢ b → Differ s a b
+differ-at s w a b la lb n = by-test (any (s .cell) at) found none
+  where
+    differs : ℕ → ℕ → Bool
+    differs = λ t c. not (eqb (byteAt s a c t) (byteAt s b c t))
+
+    at : ℕ → Bool
+    at = λ t. any (cells s) (differs t)
+
+    found : any (s .cell) at ≡ true → Differ s a b
+    found p =
+        let byte = any-some (s .cell) at p in
+        let cell = any-some (cells s) (differs (byte .0)) (byte .2) in record {
+          cell = cell .0;
+          byte = byte .0;
+          cellIn = cell .1;
+          byteIn = byte .1;
+          differ = λ e. clash (cell .2) (ap not (eq-eqb (byteAt s a (cell .0) (byte .0)) (byteAt s b (cell .0) (byte .0)) e));
+        }
+
+    none : any (s .cell) at ≡ false → Differ s a b
+    none p = absurd (n (same-bytes s w a b la lb (λ c lc t lt. eqb-true (byteAt s a c t) (byteAt s b c t)
+        (not-false (eqb (byteAt s a c t) (byteAt s b c t)) (any-none (cells s) (differs t) (any-none (s .cell) at p t lt) c lc)))))
+
+-- the same code and p, with cells of n bytes
+abbrev pub resized : Shape → ℕ → Shape
+resized s n = record { code = s .code; p = s .p; cell = n }
+
+module _ (s : Shape) (n : ℕ) where
+  -- the equations are the same
+  solves-any-cell : (f : ℕ → ℕ) → Solves s f → Solves (resized s n) f
+  unfolding parityCell sumsCell sumOver cells rows columns equations cellNumber equation
+  solves-any-cell f h = h
+
+  parity-any-cell : ((q : ℕ) → q < equations s → parityCell s q < cells s) → (q : ℕ) → q < equations (resized s n) → parityCell (resized s n) q < cells (resized s n)
+  unfolding parityCell cells rows columns equations cellNumber equation
+  parity-any-cell h = h
+
+pub undetermined-any-cell : (s : Shape) → WellFormed s → (n : ℕ) → 1 ≤ n → (lost : ℕ → Bool) → Undetermined s lost → Undetermined (resized s n) lost
+unfolding byteAt cells columns rows
+undetermined-any-cell s w n low lost u =
+    let at = differ-at s w (u .one) (u .other) (u .oneIs .long) (u .otherIs .long) (u .differ) in
+    let t = at .byte in
+    two-solutions (resized s n) low (parity-any-cell s n (ordered s w .inside)) lost (bytesAt s (u .one) t) (bytesAt s (u .other) t)
+    (λ c l. u .oneIs .bytes (c * s .cell + t)) (λ c l. u .otherIs .bytes (c * s .cell + t))
+    (solves-any-cell s n (bytesAt s (u .one) t) (λ q l. u .oneIs .encoded .holds q l t (at .byteIn)))
+    (solves-any-cell s n (bytesAt s (u .other) t) (λ q l. u .otherIs .encoded .holds q l t (at .byteIn)))
+    (λ c l e. u .agree .same c l e t (at .byteIn)) (at .cell) (at .cellIn) (at .differ)
+
+-- ---- a list that names no cell
+
+-- every cell survives
+all-survive : (s : Shape) → WellFormed s → (x y : List ℕ) → length x ≡ stripeLength s → length y ≡ stripeLength s → Agree s (named []) x y → x ≡ y
+unfolding named any
+all-survive s w x y lx ly agree = same-bytes s w x y lx ly (λ c l. agree .same c l refl)
+
+pub empty-list : (s : Shape) (old : List ℕ) → refusal (cellsFaults s (length old) []) ≡ 0 → ((i : ℕ) → getD old i 0 < 256) → (answer : ℕ) (new : List ℕ) → RebuildsCells s [] old answer new
+    → (Encoded s old → (answer ≡ 0) × (new ≡ old)) × ((Encoded s old → ⊥) → answer ≡ 12)
+empty-list s old right bytes answer new h = (same, λ broken. by-equal answer 12 (λ e. e) (λ n. absurd (broken (kept n))))
+  where
+    formed : WellFormed s × (length old ≡ stripeLength s)
+    formed = let accepted = cells-accepted s (length old) [] right in (accepted .0, accepted .1)
+
+    determined : Undetermined s (named []) → ⊥
+    determined u = u .differ (all-survive s (formed .0) (u .one) (u .other) (u .oneIs .long) (u .otherIs .long) (u .agree))
+
+    same : Encoded s old → (answer ≡ 0) × (new ≡ old)
+    same encoded = cells-come-back s [] old old right determined
+        (record { is = record { long = formed .1; bytes = bytes; encoded = encoded }; agree = record { same = λ c l e t lt. refl } }) answer new h
+
+    -- any answer but 12 leaves an encoded stripe, which is the old one
+    kept : answer ≢ 12 → Encoded s old
+    kept n =
+        let done = h .decides right .done (λ e. determined (h .decides right .eleven e)) n .1 in
+        subst (Encoded s) (sym (all-survive s (formed .0) old new (formed .1) (done .is .long) (done .agree))) (done .is .encoded)

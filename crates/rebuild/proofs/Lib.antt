@@ -1,0 +1,18 @@
+-- The laws behind the rebuild of lost cells and the search for a bad column.
+pub mod Lists
+pub mod Stripes
+pub mod Solving
+pub mod Lanes
+pub mod Rests
+pub mod Explained
+pub mod OneBad
+pub mod Rebuilding
+pub mod Deciding
+pub mod OneAnswer
+pub mod LostBytes
+pub mod Never
+pub mod Facts
+pub mod Naming
+pub mod Calls
+pub mod Marks
+pub mod Computed

@@ -1,0 +1,56 @@
+-- Two columns come back from the others, in each code and for every p: a rebuild of columns is never undetermined.
+use mathlib.Core.Path.{_≡_, refl, sym, ap, _∙_, subst}
+use mathlib.Core.Logic.{_≢_}
+use mathlib.Core.List.{List, [], _∷_}
+use mathlib.Core.Bool.{Bool, true, cond}
+use Prim.Native.Nat.{ℕ, _/_, _<_}
+use native.Mathlib.Omega.{arith}
+use lib.ListN.{length}
+use borrow.Author.Tests.{ne-eqb}
+use Rattle.xor.proofs.Cases.{by-test, by-equal, clash}
+use Rattle.codes.specs.declared.Shape.{Shape}
+use Rattle.codes.specs.Shape.{rows, columns, WellFormed}
+use Rattle.codes.specs.Refusals.{Fault, order, applies, firstOf, refusal, stripeFaults, columnsFaults}
+use Rattle.codes.proofs.Refused.{columns-accepted}
+use Rattle.codes.proofs.Parity.{same-bytes}
+use Rattle.codes.proofs.TwoColumns.{two-columns-determined}
+use Rattle.rebuild.specs.Survivors.{Undetermined, Restores}
+use Rattle.rebuild.specs.Rebuild.{Rebuilds, inColumns, RebuildsColumns}
+use Rattle.rebuild.specs.Lanes.{bytesAt}
+
+-- encoded stripes that agree off two columns are equal
+pub columns-determined : (s : Shape) → WellFormed s → (a b : ℕ) → a < columns s → b < columns s → Undetermined s (inColumns s a b) → ⊥
+unfolding inColumns
+columns-determined s w a b la lb u =
+    u .differ (same-bytes s w (u .one) (u .other) (u .oneIs .long) (u .otherIs .long)
+    (λ c l t lt. two-columns-determined s w (bytesAt s (u .one) t) (bytesAt s (u .other) t)
+    (λ q lq. u .oneIs .encoded .holds q lq t lt) (λ q lq. u .otherIs .encoded .holds q lq t lt) a b la lb
+    (λ d ld n m. u .agree .same d ld (rw (ne-eqb (d / rows s) a n, ne-eqb (d / rows s) b m) refl) t lt) c l))
+
+-- a refusal that is given applies
+given-applies : (numbers : List ℕ) (faults : List Fault) (n : ℕ) → firstOf numbers faults ≡ n → n ≢ 0 → applies faults n ≡ true
+unfolding firstOf
+given-applies [] faults n e k = absurd (k (sym e))
+given-applies (m ∷ numbers) faults n e k =
+    by-test (applies faults m)
+    (λ p. subst (λ (x : ℕ). applies faults x ≡ true) (sym (ap (λ (b : Bool). cond b m (firstOf numbers faults)) p) ∙ e) p)
+    (λ p. given-applies numbers faults n (sym (ap (λ (b : Bool). cond b m (firstOf numbers faults)) p) ∙ e) k)
+
+-- no number that is wrong makes it 11
+no-eleven : (s : Shape) (bytes a b : ℕ) → refusal (columnsFaults s bytes a b) ≢ 11
+unfolding refusal columnsFaults stripeFaults applies
+no-eleven s bytes a b e = clash (given-applies order (columnsFaults s bytes a b) 11 e (λ z. omega arith)) refl
+
+-- a rebuild of columns never answers 11
+pub columns-never : (s : Shape) (a b : ℕ) (old : List ℕ) (answer : ℕ) (new : List ℕ) → Rebuilds s (inColumns s a b) (refusal (columnsFaults s (length old) a b)) old answer new → answer ≢ 11
+columns-never s a b old answer new h e =
+    by-equal (refusal (columnsFaults s (length old) a b)) 0
+    (λ z. let right = columns-accepted s (length old) a b z in columns-determined s (right .0) a b (right .2) (right .3) (h .decides z .eleven e))
+    (λ n. no-eleven s (length old) a b (sym (h .refused n) ∙ e))
+
+-- a rebuild of columns with the right numbers answers 12 exactly when no encoded stripe agrees with the survivors
+pub twelve-only : (s : Shape) (a b : ℕ) (old : List ℕ) → refusal (columnsFaults s (length old) a b) ≡ 0 → (answer : ℕ) (new : List ℕ) → RebuildsColumns s a b old answer new
+    → (answer ≡ 12 → (x : List ℕ) → Restores s (inColumns s a b) old x → ⊥) × (((x : List ℕ) → Restores s (inColumns s a b) old x → ⊥) → answer ≡ 12)
+twelve-only s a b old right answer new h =
+    let decides = h .rebuilds .decides right in
+    (decides .twelve, λ none. by-equal answer 12 (λ e. e) (λ n. absurd (none new (decides .done (h .never) n .1))))
