@@ -1,10 +1,11 @@
 /* The bridge: reads calls on standard input, makes them, writes the answers to
  * standard output. Every number is 64 bits, low byte first.
  *
- *   request  operation, shape (code, p, cell), row, column, the loans of the stripe
- *            and of new bytes, the `given` bytes of each
+ *   request  operation, shape (code, p, cell), row and column of a small write, the
+ *            two columns of a rebuild, the loans of the stripe, of new bytes and of the
+ *            list of lost cells, the `given` bytes of each
  *   answer   guards of each loan (0 unchanged, 1 changed before, 2 after, 3 both),
- *            refusal, count, the `given` bytes of each after the call
+ *            refusal, count, finding, column, the `given` bytes of each after the call
  *
  * A new operation is one more case in `carry_out`; one more lent buffer is one more
  * loan. */
@@ -30,27 +31,28 @@ enum {
 
 enum place { MIDDLE, BEFORE_PAGE, AFTER_PAGE, NOWHERE };
 
-/* How bytes are lent: how many there are, the length that the call is told, and
- * where they lie: in the middle at `offset` from a multiple of 64, right before or
- * right after an inaccessible page, or nowhere (NULL). Sealed bytes can't be
- * written during the call. */
+/* How bytes are lent: how many there are, the length that the call is told (of lost
+ * cells: the count), and where they lie: in the middle at `offset` from a multiple of
+ * 64, right before or right after an inaccessible page, or nowhere (NULL). Sealed
+ * bytes and their guards can't be written during the call. */
 struct loan {
     uint64_t given, claimed, place, offset, sealed;
 };
 
-enum operation { ENCODE = 1, BROKEN = 2, WRITE = 3 };
+enum operation { ENCODE = 1, BROKEN = 2, WRITE = 3, REBUILD_CELLS = 4, REBUILD_COLUMNS = 5, BAD_COLUMN = 6 };
 
-enum { STRIPE, BYTES, LOANS };
+enum { STRIPE, BYTES, LOST, LOANS };
 
 struct request {
     uint64_t operation;
     struct zijraduf_shape shape;
-    uint64_t row, column;
+    uint64_t row, column, columns[2];
     struct loan loans[LOANS];
 };
 
+/* What a call doesn't give is 0. */
 struct answer {
-    uint64_t guards[LOANS], refusal, count;
+    uint64_t guards[LOANS], refusal, count, finding, column;
 };
 
 /* Memory between two inaccessible pages, and the bytes lent in it. */
@@ -111,6 +113,17 @@ static uint64_t changed_guards(const struct room *room) {
     return (before != 0) + 2 * (after != 0);
 }
 
+/* Sets the rights to the lent bytes and their guards. */
+static void set_rights(const struct room *room, int rights) {
+    uint8_t *from = room->floor + (guards_from(room) - room->floor) / PAGE * PAGE;
+    size_t length = (size_t)(guards_to(room) - from);
+    if (mprotect(from, (length + PAGE - 1) / PAGE * PAGE, rights) != 0) exit(3);
+}
+
+static int is_sealed(const struct loan *loan) {
+    return loan->sealed && loan->place != NOWHERE;
+}
+
 /* Takes the bytes of a loan into the room. Bytes that lie nowhere have no guards. */
 static void lend(struct room *room, const struct loan *loan) {
     if (loan->given > MOST || loan->offset >= 64 || loan->place > NOWHERE) exit(3);
@@ -120,44 +133,62 @@ static void lend(struct room *room, const struct loan *loan) {
     room->end = loan->place == NOWHERE ? room->floor + ROOM : room->start + loan->given;
     set_guards(room);
     if (loan->given > 0 && !take(room->start, loan->given)) exit(3);
-    if (loan->sealed && mprotect(room->floor, ROOM, RIGHT_READ) != 0) exit(3);
-}
-
-static void unseal(const struct room *room, const struct loan *loan) {
-    if (loan->sealed && mprotect(room->floor, ROOM, RIGHT_BOTH) != 0) exit(3);
+    if (is_sealed(loan)) set_rights(room, RIGHT_READ);
 }
 
 static uint8_t *lent(const struct room *room, const struct loan *loan) {
     return loan->place == NOWHERE ? NULL : room->start;
 }
 
-static struct zijraduf_count carry_out(const struct request *request, uint8_t *stripe, const uint8_t *bytes) {
-    size_t length = request->loans[STRIPE].claimed;
+static struct answer counted(struct zijraduf_count came) {
+    return (struct answer){.refusal = came.refusal, .count = came.count};
+}
+
+static struct answer found(struct zijraduf_finding came) {
+    return (struct answer){.refusal = came.refusal, .finding = came.finding, .column = came.column};
+}
+
+static struct answer carry_out(const struct request *request, uint8_t *const lent[LOANS]) {
+    struct zijraduf_shape shape = request->shape;
+    uint8_t *stripe = lent[STRIPE];
+    const uint64_t *lost = (const uint64_t *)(const void *)lent[LOST];
+    size_t length = request->loans[STRIPE].claimed, count = request->loans[LOST].claimed;
     switch (request->operation) {
     case ENCODE:
-        return (struct zijraduf_count){zijraduf_encode(request->shape, stripe, length), 0};
+        return (struct answer){.refusal = zijraduf_encode(shape, stripe, length)};
     case BROKEN:
-        return zijraduf_broken(request->shape, stripe, length);
+        return counted(zijraduf_broken(shape, stripe, length));
     case WRITE:
-        return zijraduf_write(request->shape, stripe, length, request->row, request->column, bytes,
-                              request->loans[BYTES].claimed);
+        return counted(zijraduf_write(shape, stripe, length, request->row, request->column, lent[BYTES],
+                                      request->loans[BYTES].claimed));
+    case REBUILD_CELLS:
+        return (struct answer){.refusal = zijraduf_rebuild_cells(shape, stripe, length, lost, count)};
+    case REBUILD_COLUMNS:
+        return (struct answer){.refusal = zijraduf_rebuild_columns(shape, stripe, length, request->columns[0],
+                                                                   request->columns[1])};
+    case BAD_COLUMN:
+        return found(zijraduf_bad_column(shape, stripe, length));
     }
     exit(3);
 }
 
 int main(void) {
-    struct room rooms[LOANS] = {make_room(), make_room()};
+    struct room rooms[LOANS] = {make_room(), make_room(), make_room()};
     struct request request;
     const struct loan *loans = request.loans;
     while (take(&request, sizeof request)) {
-        for (int k = 0; k < LOANS; k++) lend(&rooms[k], &loans[k]);
-        alarm(SECONDS_A_CALL);
-        struct zijraduf_count came =
-            carry_out(&request, lent(&rooms[STRIPE], &loans[STRIPE]), lent(&rooms[BYTES], &loans[BYTES]));
-        alarm(0);
-        struct answer answer = {{0, 0}, came.refusal, came.count};
+        uint8_t *at[LOANS];
         for (int k = 0; k < LOANS; k++) {
-            unseal(&rooms[k], &loans[k]);
+            lend(&rooms[k], &loans[k]);
+            at[k] = lent(&rooms[k], &loans[k]);
+        }
+        /* The list is of 64-bit numbers: C wants it where such numbers may lie. */
+        if ((uintptr_t)at[LOST] % sizeof(uint64_t) != 0) exit(3);
+        alarm(SECONDS_A_CALL);
+        struct answer answer = carry_out(&request, at);
+        alarm(0);
+        for (int k = 0; k < LOANS; k++) {
+            if (is_sealed(&loans[k])) set_rights(&rooms[k], RIGHT_BOTH);
             answer.guards[k] = changed_guards(&rooms[k]);
         }
         put(&answer, sizeof answer);

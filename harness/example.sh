@@ -1,5 +1,5 @@
 #!/bin/sh
-# Proves and builds the example program, and runs it: a stripe before and after encoding.
+# Proves and builds the example program, and runs it: a stripe encoded, lost in part and rebuilt.
 set -eu
 ROOT=$(cd "$(dirname "$0")/.." && pwd)
 . "$ROOT/harness/kit.sh"

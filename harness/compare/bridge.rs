@@ -1,6 +1,6 @@
 //! The pipe to the bridge, the program that makes the library's calls.
 
-use crate::cases::Case;
+use crate::cases::{Case, Lent};
 use crate::second::{Answer, Shape};
 use std::io::{self, Read, Write};
 use std::process::{Child, ChildStdin, ChildStdout, Command, Stdio};
@@ -15,7 +15,8 @@ pub enum Place {
     Null,
 }
 
-/// How bytes are lent. Sealed bytes can't be written while the call runs.
+/// How bytes are lent. Sealed bytes can't be written while the call runs; a stripe is
+/// sealed only where the call has to leave it as it is.
 #[derive(Clone, Copy, Debug)]
 pub struct Loan {
     pub place: Place,
@@ -23,11 +24,11 @@ pub struct Loan {
 }
 
 /// What came back: which guard bytes changed (0 none, 1 before, 2 after, 3 both),
-/// the answer, and the lent bytes; first of the stripe, then of the new bytes.
+/// the answer, and the lent bytes; of the stripe, of the new bytes, of the list.
 pub struct Reply {
-    pub guards: [u64; 2],
+    pub guards: [u64; 3],
     pub answer: Answer,
-    pub lent: [Vec<u8>; 2],
+    pub lent: [Vec<u8>; 3],
 }
 
 pub struct Bridge {
@@ -48,15 +49,19 @@ impl Bridge {
         Ok(Bridge { child, input, output })
     }
 
-    /// Makes the call of a case with the lent bytes. Where the bridge doesn't live to
+    /// Makes the call of a case with what is lent. Where the bridge doesn't live to
     /// answer it, says how it ended.
-    pub fn call(&mut self, case: &Case, lent: &[Vec<u8>; 2]) -> Result<Reply, String> {
+    pub fn call(&mut self, case: &Case, lent: &Lent) -> Result<Reply, String> {
         let call = &case.call;
         let Shape { code, p, cell } = call.shape;
-        let mut request = vec![call.operation as u64, code, p, cell, call.row, call.column];
-        for (loan, claimed, bytes) in
-            [(case.stripe, call.length, &lent[0]), (case.bytes, call.bytes_length, &lent[1])]
-        {
+        let [a, b] = call.columns;
+        let mut request = vec![call.operation as u64, code, p, cell, call.row, call.column, a, b];
+        let list: Vec<u8> = lent.lost.iter().flat_map(|n| n.to_le_bytes()).collect();
+        for (loan, claimed, bytes) in [
+            (case.stripe, call.length, &lent.stripe),
+            (case.bytes, call.bytes_length, &lent.bytes),
+            (case.list, lent.count, &list),
+        ] {
             let (place, offset) = match loan.place {
                 Place::Middle(offset) => (0, offset),
                 Place::BeforePage => (1, 0),
@@ -66,22 +71,22 @@ impl Bridge {
             request.extend([bytes.len() as u64, claimed, place, offset, loan.sealed as u64]);
         }
         let head: Vec<u8> = request.into_iter().flat_map(u64::to_le_bytes).collect();
-        self.exchange([&head, &lent[0], &lent[1]]).map_err(|_| {
+        self.exchange(&head, [&lent.stripe, &lent.bytes, &list]).map_err(|_| {
             let status = self.child.wait().map_or("lost".into(), |status| status.to_string());
             format!("the bridge ended in the call ({status})")
         })
     }
 
-    fn exchange(&mut self, parts: [&Vec<u8>; 3]) -> io::Result<Reply> {
-        self.input.write_all(&parts.map(Vec::as_slice).concat())?;
-        let mut head = [[0; 8]; 4];
+    fn exchange(&mut self, head: &[u8], lent: [&[u8]; 3]) -> io::Result<Reply> {
+        self.input.write_all(&[head, lent[0], lent[1], lent[2]].concat())?;
+        let mut head = [[0; 8]; 7];
         self.output.read_exact(head.as_flattened_mut())?;
-        let [stripe_guards, bytes_guards, refusal, count] = head.map(u64::from_le_bytes);
-        let mut lent = [vec![0; parts[1].len()], vec![0; parts[2].len()]];
+        let [g0, g1, g2, refusal, count, finding, column] = head.map(u64::from_le_bytes);
+        let mut lent = lent.map(|bytes| vec![0; bytes.len()]);
         for bytes in &mut lent {
             self.output.read_exact(bytes)?;
         }
-        Ok(Reply { guards: [stripe_guards, bytes_guards], answer: Answer { refusal, count }, lent })
+        Ok(Reply { guards: [g0, g1, g2], answer: Answer { refusal, count, finding, column }, lent })
     }
 
     /// Lets the bridge end, and has it end well.

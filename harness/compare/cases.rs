@@ -2,23 +2,12 @@
 //! without --long.
 
 use crate::bridge::{Loan, Place};
+use crate::fills::Fill;
+use crate::lists::{Lost, Odd};
 use crate::random::Random;
-use crate::second::{Answer, Call, Layout, Operation, Second, Shape, PRIMES};
-use Operation::{Broken, Encode, Write};
-
-/// What the stripe holds before the call. A wholly random stripe has junk in its
-/// parity cells too.
-#[derive(Clone, Copy, PartialEq, Debug)]
-pub enum Fill {
-    Written(usize),
-    Random,
-    Encoded,
-    BitDamaged,
-    CellDamaged,
-    ColumnDamaged,
-    SeveralDamaged,
-    LoneByteInCell(usize),
-}
+use crate::second::{Answer, Call, Layout, Operation, Second, Shape, CLEAN, COLUMN, PRIMES};
+use crate::written::WRITTEN;
+use Operation::{BadColumn, Broken, Encode, RebuildCells, RebuildColumns, Write};
 
 /// The new bytes of a small write: random, those that the cell holds, or those with
 /// one of them changed.
@@ -29,89 +18,28 @@ pub enum New {
     OneByte,
 }
 
-/// A call that the scope document gives the answer of.
-pub struct Written {
-    call: Call,
-    before: &'static [u8],
-    bytes: &'static [u8],
-    pub answer: Answer,
-    pub after: &'static [u8],
-}
-
-/// A call, and how the stripe and the new bytes are filled and lent.
+/// A call, and how the stripe, the new bytes and the list of lost cells are filled
+/// and lent.
+#[derive(Clone, Copy)]
 pub struct Case {
     pub call: Call,
     pub fill: Fill,
     pub new: New,
+    pub lost: Lost,
     pub stripe: Loan,
     pub bytes: Loan,
+    pub list: Loan,
 }
 
-const P1: [u8; 8] = [0x01, 0x04, 0x02, 0x08, 0x03, 0x0C, 0x0D, 0x06];
-const P1_JUNK: [u8; 8] = [0x01, 0x04, 0x02, 0x08, 0xEE, 0xEE, 0xEE, 0xEE];
-const P2: [u8; 8] = [0x01, 0x02, 0x0A, 0x04, 0x08, 0x05, 0x09, 0x06];
-const P2_JUNK: [u8; 8] = [0x01, 0x02, 0xEE, 0x04, 0x08, 0xEE, 0xEE, 0xEE];
-const P3: [u8; 9] = [0x01, 0x04, 0x02, 0x02, 0x01, 0x04, 0x04, 0x02, 0x01];
-const P3_JUNK: [u8; 9] = [0x01, 0xEE, 0xEE, 0x02, 0xEE, 0xEE, 0x04, 0xEE, 0xEE];
-const P10: [u8; 8] = [0x00, 0x04, 0x02, 0x0A, 0x03, 0x0C, 0x0D, 0x06];
-
-const P4: [u8; 8] = [0x05, 0x04, 0x02, 0x08, 0x07, 0x0C, 0x09, 0x06];
-const P5: [u8; 8] = [0x01, 0x00, 0x02, 0x08, 0x03, 0x08, 0x09, 0x02];
-
-pub static WRITTEN: [Written; 22] = [
-    encoded(1, &P1_JUNK, &P1),
-    encoded(2, &P2_JUNK, &P2),
-    encoded(3, &P3_JUNK, &P3),
-    encoded(1, &P1, &P1),
-    encoded(2, &P2, &P2),
-    encoded(3, &P3, &P3),
-    counted(1, &P1, 0),
-    counted(2, &P2, 0),
-    counted(3, &P3, 0),
-    counted(1, &P10, 3),
-    refused(Encode, 9, 1, 2),
-    refused(Encode, 2, 1, 2),
-    refused(Encode, 33, 1, 2),
-    refused(Encode, 3, 0, 4),
-    refused(Encode, 3, 4097, 4),
-    refused(Broken, 9, 1, 2),
-    refused(Broken, 3, 4097, 4),
-    changed((0, 0), &[0x05], &P4, 2),
-    changed((1, 0), &[0x00], &P5, 3),
-    changed((1, 0), &[0x04], &P1, 3),
-    refused(Write, 33, 1, 2),
-    refused(Write, 3, 0, 4),
-];
-
-const fn encoded(code: u64, before: &'static [u8], after: &'static [u8]) -> Written {
-    let call = call(Encode, Shape { code, p: 3, cell: 1 }, before.len() as u64);
-    Written { call, before, bytes: &[], answer: Answer { refusal: 0, count: 0 }, after }
-}
-
-const fn counted(code: u64, stripe: &'static [u8], count: u64) -> Written {
-    let call = call(Broken, Shape { code, p: 3, cell: 1 }, stripe.len() as u64);
-    Written { call, before: stripe, bytes: &[], answer: Answer { refusal: 0, count }, after: stripe }
-}
-
-const fn refused(operation: Operation, p: u64, cell: u64, refusal: u64) -> Written {
-    let call = call(operation, Shape { code: 1, p, cell }, P1.len() as u64);
-    Written { call, before: &P1, bytes: &[], answer: Answer { refusal, count: 0 }, after: &P1 }
-}
-
-/// A small write into P1.
-const fn changed(
-    (row, column): (u64, u64),
-    bytes: &'static [u8],
-    after: &'static [u8],
-    count: u64,
-) -> Written {
-    let call = call(Write, Shape { code: 1, p: 3, cell: 1 }, P1.len() as u64);
-    let call = Call { row, column, bytes_length: bytes.len() as u64, ..call };
-    Written { call, before: &P1, bytes, answer: Answer { refusal: 0, count }, after }
-}
-
-const fn call(operation: Operation, shape: Shape, length: u64) -> Call {
-    Call { operation, shape, length, row: 0, column: 0, bytes_length: 0 }
+/// What is lent: the stripe, the new bytes, the list of lost cells, and the count that
+/// the call is told with it.
+pub struct Lent {
+    pub stripe: Vec<u8>,
+    pub bytes: Vec<u8>,
+    pub lost: Vec<u64>,
+    pub count: u64,
+    /// The stripe before cells were lost.
+    pub whole: Vec<u8>,
 }
 
 // Good and bad parameters. The large ones look like good ones when cut short.
@@ -137,22 +65,67 @@ const BROKEN_FILLS: [Fill; 6] = [
 /// The most bytes lent; a call that is told more is told of bytes that aren't there.
 const MOST: u64 = 4 << 20;
 
-/// All the cases of a seed, the last of them `rounds` with random shapes.
-pub fn all(second: &Second, seed: u64, rounds: usize) -> Vec<Case> {
-    let mut cases = Cases { second, random: Random::new(seed, 0), list: Vec::new() };
-    cases.written();
-    cases.bad_parameters();
-    cases.every_p();
-    cases.lone_bytes();
-    cases.listed_shapes();
-    cases.writes();
-    for round in 0..rounds {
-        cases.random_call();
-        if round % 2 == 0 {
-            cases.random_write();
-        }
+/// The cases of a seed: those that are listed, and after them random ones.
+pub struct All<'a> {
+    second: &'a Second,
+    seed: u64,
+    listed: Vec<Case>,
+}
+
+impl All<'_> {
+    pub fn new(second: &Second, seed: u64) -> All<'_> {
+        let mut cases = Cases { second, random: Random::new(seed, 0), list: Vec::new() };
+        cases.written();
+        cases.bad_parameters();
+        cases.every_p();
+        cases.lone_bytes();
+        cases.listed_shapes();
+        cases.writes();
+        cases.rebuilds();
+        cases.findings();
+        All { second, seed, listed: cases.list }
     }
-    cases.list
+
+    pub fn listed(&self) -> usize {
+        self.listed.len()
+    }
+
+    /// Case number `n`, from 1.
+    pub fn case(&self, n: usize) -> Case {
+        if let Some(case) = self.listed.get(n - 1) {
+            return *case;
+        }
+        let mut cases =
+            Cases { second: self.second, random: Random::new(!self.seed, n as u64), list: Vec::new() };
+        match n % 6 {
+            0 | 1 => cases.random_call(),
+            2 => cases.random_write(),
+            3 | 4 => cases.random_rebuild(),
+            _ => cases.random_finding(),
+        }
+        cases.list[0]
+    }
+}
+
+/// Every code with every p.
+pub fn codes() -> impl Iterator<Item = (u64, u64)> {
+    (1..=3).flat_map(|code| PRIMES.map(|p| (code, p)))
+}
+
+/// Every p up to past 128 with cells of one byte, and the length that would be right.
+pub fn any_p() -> impl Iterator<Item = (Shape, u64)> {
+    (0..=133u64).flat_map(|p| {
+        let short = (p * p).wrapping_sub(1);
+        [(1, short), (2, short), (3, p * p)].map(|(code, length)| (Shape { code, p, cell: 1 }, length))
+    })
+}
+
+/// Code, p and cell size good, at 0, one past the last and at the most, in all
+/// combinations.
+pub fn edge_shapes() -> impl Iterator<Item = Shape> {
+    let codes_and_p =
+        [0, 1, 2, 3, 4, u64::MAX].into_iter().flat_map(|code| [0, 5, 32, u64::MAX].map(|p| (code, p)));
+    codes_and_p.flat_map(|(code, p)| [0, 3, 4097, u64::MAX].map(|cell| Shape { code, p, cell }))
 }
 
 pub struct Cases<'a> {
@@ -162,17 +135,23 @@ pub struct Cases<'a> {
 }
 
 impl Cases<'_> {
-    fn push(&mut self, operation: Operation, shape: Shape, claimed: u64, fill: Fill) {
-        let places = self.places();
-        let place = self.random.one_of(&places);
-        self.push_at(place, operation, shape, claimed, fill);
+    /// Lends in any place, at times NULL where there is nothing to lend; the list of
+    /// lost cells always sealed.
+    pub fn case(&mut self, call: Call, fill: Fill) -> Case {
+        let stripe = Loan { place: self.place(call.length), sealed: self.random.below(4) == 0 };
+        let bytes = if call.operation == Write { self.place(call.bytes_length) } else { Place::Null };
+        let bytes = Loan { place: bytes, sealed: self.random.below(2) == 0 };
+        let list = Loan { place: Place::Null, sealed: true };
+        Case { call, fill, new: New::Random, lost: Lost::NONE, stripe, bytes, list }
     }
 
-    fn push_at(&mut self, place: Place, operation: Operation, shape: Shape, claimed: u64, fill: Fill) {
-        let stripe = Loan { place, sealed: operation == Broken && self.random.below(4) == 0 };
-        let bytes = Loan { place: Place::Null, sealed: false };
-        let call = call(operation, shape, claimed);
-        self.list.push(Case { call, fill, new: New::Random, stripe, bytes });
+    fn place(&mut self, length: u64) -> Place {
+        let places = self.places();
+        if length == 0 && self.random.below(2) == 0 {
+            Place::Null
+        } else {
+            self.random.one_of(&places)
+        }
     }
 
     pub fn places(&mut self) -> [Place; 3] {
@@ -180,10 +159,35 @@ impl Cases<'_> {
         [Place::Middle(offset), Place::BeforePage, Place::AfterPage]
     }
 
+    /// Where a list of lost cells lies: 64-bit numbers lie at multiples of 8.
+    pub fn list_place(&mut self, empty: bool) -> Place {
+        match self.place(!empty as u64) {
+            Place::Middle(offset) => Place::Middle(offset / 8 * 8),
+            place => place,
+        }
+    }
+
+    pub fn layout(&self, code: u64, p: u64) -> &Layout {
+        self.second.layout(code, p).expect("a good shape")
+    }
+
+    fn push(&mut self, operation: Operation, shape: Shape, claimed: u64, fill: Fill) {
+        let case = self.case(Call::new(operation, shape, claimed), fill);
+        self.list.push(case);
+    }
+
+    fn push_at(&mut self, place: Place, operation: Operation, shape: Shape, claimed: u64, fill: Fill) {
+        let mut case = self.case(Call::new(operation, shape, claimed), fill);
+        case.stripe.place = place;
+        self.list.push(case);
+    }
+
     /// The stripes to try, as they are written.
     fn written(&mut self) {
         for (n, written) in WRITTEN.iter().enumerate() {
-            self.push_call(written.call, Fill::Written(n), New::Random);
+            let mut case = self.case(written.call, Fill::Written(n));
+            case.list.place = self.list_place(written.lost.is_empty());
+            self.list.push(case);
         }
     }
 
@@ -226,13 +230,10 @@ impl Cases<'_> {
         Shape { code, p, cell: 1 }
     }
 
-    /// Every p up to past 128, each with the length that would be right for it.
     fn every_p(&mut self) {
-        for p in 0..=133u64 {
-            for (code, length) in [(1, (p * p).wrapping_sub(1)), (2, (p * p).wrapping_sub(1)), (3, p * p)] {
-                for operation in [Encode, Broken] {
-                    self.push(operation, Shape { code, p, cell: 1 }, length, Fill::Random);
-                }
+        for (shape, length) in any_p() {
+            for operation in [Encode, Broken] {
+                self.push(operation, shape, length, Fill::Random);
             }
         }
     }
@@ -316,29 +317,42 @@ fn lent_length(claimed: u64) -> usize {
 }
 
 impl Case {
-    /// The stripe and the new bytes before the call of case number `n`.
-    pub fn lent(&self, second: &Second, seed: u64, n: usize) -> [Vec<u8>; 2] {
+    /// What is lent to the call of case number `n`.
+    pub fn lent(&self, second: &Second, seed: u64, n: usize) -> Lent {
         let mut random = Random::new(seed, n as u64);
-        let stripe = self.stripe(second, &mut random);
-        let bytes = self.new_bytes(second, &stripe, &mut random);
-        [stripe, bytes]
+        let whole = self.stripe(second, &mut random);
+        let bytes = self.new_bytes(second, &whole, &mut random);
+        let Shape { code, p, cell } = self.call.shape;
+        let layout = second.layout(code, p).unwrap_or(second.layout(1, 5).expect("a good shape"));
+        let mut cells = self.lost.cells(layout, &mut random);
+        let lost = match self.fill {
+            Fill::Written(n) => WRITTEN[n].lost.to_vec(),
+            _ => self.lost.list(&cells, layout, &mut random),
+        };
+        let mut stripe = whole.clone();
+        if second.refusal(&self.call, &lost) == 0 {
+            if self.call.operation == RebuildColumns {
+                let [a, b] = self.call.columns.map(|n| n as usize);
+                cells = layout.in_columns(a, b);
+            }
+            self.lost.put_found(&cells, cell as usize, &mut stripe, &mut random);
+        }
+        Lent { stripe, bytes, count: self.lost.count(&lost), lost, whole }
     }
 
     fn stripe(&self, second: &Second, random: &mut Random) -> Vec<u8> {
         let Shape { code, p, cell } = self.call.shape;
+        let cell = cell as usize;
         let mut stripe = vec![0; lent_length(self.call.length)];
         match self.fill {
             Fill::Written(n) => stripe.copy_from_slice(WRITTEN[n].before),
-            Fill::LoneByteInCell(n) => {
-                let cell = cell as usize;
-                stripe[n * cell + random.below(cell)] = random.nonzero_byte();
-            }
+            Fill::LoneByteInCell(n) => stripe[n * cell + random.below(cell)] = random.nonzero_byte(),
             Fill::Random => random.fill(&mut stripe),
             _ => {
                 let layout = second.layout(code, p).expect("a good shape");
                 random.fill(&mut stripe);
-                layout.encode(cell as usize, &mut stripe);
-                self.damage(layout, &mut stripe, random);
+                layout.encode(cell, &mut stripe);
+                self.fill.damage(layout, cell, &mut stripe, random);
             }
         }
         stripe
@@ -351,7 +365,7 @@ impl Case {
         if let Fill::Written(n) = self.fill {
             bytes.copy_from_slice(WRITTEN[n].bytes);
         }
-        if self.new != New::Random && second.refusal(&self.call) == 0 {
+        if self.new != New::Random && second.refusal(&self.call, &[]) == 0 {
             let layout = second.layout(shape.code, shape.p).expect("a good shape");
             let start = layout.start((row as usize, column as usize), bytes.len());
             bytes = stripe[start..start + bytes.len()].to_vec();
@@ -363,32 +377,27 @@ impl Case {
         bytes
     }
 
-    fn damage(&self, layout: &Layout, stripe: &mut [u8], random: &mut Random) {
-        let cell = self.call.shape.cell as usize;
-        let column = layout.rows * cell;
-        match self.fill {
-            Fill::BitDamaged => {
-                let byte = random.below(cell);
-                let byte = random.one_of(&[0, byte, cell - 1]);
-                stripe[random.below(layout.cells()) * cell + byte] ^= 1 << random.below(8);
-            }
-            Fill::CellDamaged => {
-                let start = random.below(layout.cells()) * cell;
-                random.fill(&mut stripe[start..start + cell]);
-            }
-            Fill::ColumnDamaged => {
-                let start = random.below(layout.columns) * column;
-                random.fill(&mut stripe[start..start + column]);
-            }
-            // The same change at the same byte of some cells: in an equation with
-            // two of them it is not seen.
-            Fill::SeveralDamaged => {
-                let (byte, change) = (random.below(cell), random.nonzero_byte());
-                for _ in 0..2 + random.below(7) {
-                    stripe[random.below(layout.cells()) * cell + byte] ^= change;
-                }
-            }
-            _ => {}
+    /// The answer, where it is known without computing: from what the scope document
+    /// says of all stripes, or from how this one was made.
+    pub fn known(&self, second: &Second) -> Option<Answer> {
+        let Shape { code, p, .. } = self.call.shape;
+        let layout = second.layout(code, p)?;
+        if second.refusal(&self.call, &[]) != 0 || self.lost.odd != Odd::Nothing {
+            return None;
+        }
+        let (encoded, [a, b]) = (self.fill == Fill::Encoded, self.call.columns);
+        match (self.call.operation, self.fill) {
+            (BadColumn, Fill::Encoded) => Some(Answer::found(CLEAN, 0)),
+            (BadColumn, Fill::CellAltered(n)) => Some(Answer::found(COLUMN, (n / layout.rows) as u64)),
+            (BadColumn, Fill::ColumnAltered(c, _)) => Some(Answer::found(COLUMN, c as u64)),
+            // Two columns have as many cells as there are equations: any bytes fit.
+            (RebuildColumns, _) if a != b || encoded => Some(Answer::refused(0)),
+            (RebuildCells, _) => match self.lost.determined(layout) {
+                Some(false) => Some(Answer::refused(11)),
+                Some(true) if encoded => Some(Answer::refused(0)),
+                _ => None,
+            },
+            _ => None,
         }
     }
 }

@@ -5,19 +5,29 @@
 
 mod bridge;
 mod cases;
+mod fills;
+mod findings;
+mod lists;
+mod lost;
 mod random;
+mod rebuilds;
 mod second;
 mod writes;
+mod written;
 
 use bridge::{Bridge, Loan};
-use cases::{Case, Fill, WRITTEN};
+use cases::{All, Case, Lent};
+use fills::Fill;
 use second::{Answer, Call, Operation, Second, Shape};
+use std::collections::BTreeMap;
 use std::io::{stderr, IsTerminal};
 use std::process::ExitCode;
 use std::time::{Duration, Instant, SystemTime, UNIX_EPOCH};
+use written::WRITTEN;
 
-const ROUNDS: usize = 20_000;
-const LONG_ROUNDS: usize = 20 * ROUNDS;
+/// How many random calls come after the listed ones.
+const RANDOM: usize = 60_000;
+const LONG_RANDOM: usize = 20 * RANDOM;
 
 struct Options {
     seed: u64,
@@ -48,8 +58,9 @@ fn main() -> ExitCode {
     };
     println!("seed {}", options.seed);
     match run(&options) {
-        Ok(calls) => {
-            println!("compared {} calls (seed {}): all equal", with_commas(calls), options.seed);
+        Ok(tally) => {
+            println!("compared {} calls (seed {}): all equal", with_commas(tally.calls()), options.seed);
+            tally.print();
             ExitCode::SUCCESS
         }
         Err(line) => {
@@ -59,43 +70,43 @@ fn main() -> ExitCode {
     }
 }
 
-/// Gives the number of calls compared, or the line that says what went wrong.
-fn run(options: &Options) -> Result<usize, String> {
+/// Gives what was compared, or the line that says what went wrong.
+fn run(options: &Options) -> Result<Tally, String> {
     let second = Second::new();
-    let rounds = if options.long || options.only.is_some() { LONG_ROUNDS } else { ROUNDS };
-    let cases = cases::all(&second, options.seed, rounds);
+    let all = All::new(&second, options.seed);
     let chosen = match options.only {
-        Some(n) if n > cases.len() => return Err(format!("there are only {} comparisons", cases.len())),
         Some(n) => n..=n,
-        None => 1..=cases.len(),
+        None => 1..=all.listed() + if options.long { LONG_RANDOM } else { RANDOM },
     };
     let mut bridge = Bridge::start(&options.bridge).map_err(|error| format!("the bridge: {error}"))?;
-    let calls = chosen.clone().count();
-    let mut progress = Progress::new(calls);
+    let mut progress = Progress::new(chosen.clone().count());
+    let mut tally = Tally::default();
     for n in chosen {
-        let case = &cases[n - 1];
+        let mut case = all.case(n);
         let lent = case.lent(&second, options.seed, n);
-        if let Err(found) = compare(&second, &mut bridge, case, &lent) {
-            progress.end();
-            return Err(report(case, &found, options.seed, n));
+        match compare(&second, &mut bridge, &mut case, &lent) {
+            Ok(answer) => tally.add(case.call.operation, answer),
+            Err(found) => {
+                progress.end();
+                return Err(report(&case, &lent, &found, options.seed, n));
+            }
         }
         progress.step();
     }
     progress.end();
-    bridge.end().map(|()| calls)
+    bridge.end().map(|()| tally)
 }
 
-fn compare(second: &Second, bridge: &mut Bridge, case: &Case, lent: &[Vec<u8>; 2]) -> Result<(), String> {
-    let [stripe, bytes] = lent;
-    let mut after = stripe.clone();
-    let answer = second.call(&case.call, &mut after, bytes);
-    if let Fill::Written(n) = case.fill {
-        let written = &WRITTEN[n];
-        same_answer("the second program gave", written.answer, answer)?;
-        same_stripe("the second program gave", case, written.after, &after)?;
-    }
-    let reply = bridge.call(case, lent)?;
-    for (guards, what) in reply.guards.into_iter().zip(["stripe", "new bytes"]) {
+/// Gives the answer, where all is equal. Unseals a stripe that the call may write.
+fn compare(second: &Second, bridge: &mut Bridge, case: &mut Case, lent: &Lent) -> Result<Answer, String> {
+    let mut after = lent.stripe.clone();
+    let answer = second
+        .call(&case.call, &mut after, &lent.bytes, &lent.lost)
+        .map_err(|found| format!("the second program contradicts itself: {found}"))?;
+    check_second(second, case, lent, answer, &after)?;
+    case.stripe.sealed &= answer.refusal != 0 || case.call.operation.only_reads();
+    let reply = bridge.call(case, lent).map_err(|end| format!("expected {answer}, {end}"))?;
+    for (guards, what) in reply.guards.into_iter().zip(["stripe", "new bytes", "list of lost cells"]) {
         if guards != 0 {
             let side = ["", "before", "after", "on both sides of"][guards as usize % 4];
             return Err(format!("memory {side} the {what} was changed"));
@@ -103,8 +114,34 @@ fn compare(second: &Second, bridge: &mut Bridge, case: &Case, lent: &[Vec<u8>; 2
     }
     same_answer("came", answer, reply.answer)?;
     same_stripe("came", case, &after, &reply.lent[0])?;
-    if reply.lent[1] != *bytes {
+    if reply.lent[1] != lent.bytes {
         return Err("the new bytes were changed".into());
+    }
+    if reply.lent[2].chunks(8).ne(lent.lost.iter().map(|n| n.to_le_bytes())) {
+        return Err("the list of lost cells was changed".into());
+    }
+    Ok(answer)
+}
+
+/// Holds the second program to what is known beforehand: the written answers, and that
+/// what is rebuilt of an encoded stripe is that stripe.
+fn check_second(
+    second: &Second,
+    case: &Case,
+    lent: &Lent,
+    answer: Answer,
+    after: &[u8],
+) -> Result<(), String> {
+    let who = "the second program gave";
+    if let Fill::Written(n) = case.fill {
+        same_answer(who, WRITTEN[n].answer, answer)?;
+        same_stripe(who, case, WRITTEN[n].after, after)?;
+    }
+    if let Some(known) = case.known(second) {
+        same_answer(who, known, answer)?;
+    }
+    if case.call.operation.rebuilds() && case.fill == Fill::Encoded && answer.refusal == 0 {
+        same_stripe(who, case, &lent.whole, after)?;
     }
     Ok(())
 }
@@ -113,34 +150,91 @@ fn same_answer(who: &str, expected: Answer, came: Answer) -> Result<(), String> 
     if expected == came {
         return Ok(());
     }
-    let text = |answer: Answer| format!("refusal {} count {}", answer.refusal, answer.count);
-    Err(format!("expected {}, {who} {}", text(expected), text(came)))
+    Err(format!("expected {expected}, {who} {came}"))
 }
 
 fn same_stripe(who: &str, case: &Case, expected: &[u8], came: &[u8]) -> Result<(), String> {
-    let Some(at) = (0..expected.len()).find(|&at| expected[at] != came[at]) else {
+    if expected == came {
         return Ok(());
-    };
+    }
+    let at = expected.iter().zip(came).take_while(|(expected, came)| expected == came).count();
     let cell = case.call.shape.cell.max(1);
     let place = format!("byte {at} (cell {}, its byte {})", at as u64 / cell, at as u64 % cell);
     Err(format!("{place}: expected {:02X}, {who} {:02X}", expected[at], came[at]))
 }
 
 /// The one line about a difference.
-fn report(case: &Case, found: &str, seed: u64, n: usize) -> String {
-    let Call { operation, shape, length, row, column, bytes_length } = case.call;
+fn report(case: &Case, lent: &Lent, found: &str, seed: u64, n: usize) -> String {
+    let Call { operation, shape, length, row, column, bytes_length, columns: [a, b] } = case.call;
     let Shape { code, p, cell } = shape;
     let seal = |loan: &Loan| if loan.sealed { ", sealed" } else { "" };
-    let mut lent = format!("({:?}, {:?}{})", case.fill, case.stripe.place, seal(&case.stripe));
-    if operation == Operation::Write {
-        let new = format!("({:?}, {:?}{})", case.new, case.bytes.place, seal(&case.bytes));
-        lent += &format!(" row={row} column={column} bytes_length={bytes_length} {new}");
+    let mut told = format!("({:?}, {:?}{})", case.fill, case.stripe.place, seal(&case.stripe));
+    match operation {
+        Operation::Write => {
+            let new = format!("({:?}, {:?}{})", case.new, case.bytes.place, seal(&case.bytes));
+            told += &format!(" row={row} column={column} bytes_length={bytes_length} {new}");
+        }
+        Operation::RebuildCells => {
+            let list = shortened(&lent.lost);
+            told += &format!(" count={} lost={list} ({:?}, {:?})", lent.count, case.lost, case.list.place);
+        }
+        Operation::RebuildColumns => told += &format!(" a={a} b={b} ({:?} found)", case.lost.found),
+        _ => {}
     }
-    let operation = format!("{operation:?}").to_lowercase();
+    let operation = name(operation);
     format!(
-        "DIFFERENT: {operation} code={code} p={p} cell={cell} length={length} {lent}: {found}; \
+        "DIFFERENT: {operation} code={code} p={p} cell={cell} length={length} {told}: {found}; \
          replay: harness/compare.sh --seed {seed} --only {n}"
     )
+}
+
+fn shortened(list: &[u64]) -> String {
+    match list.get(..64) {
+        Some(start) if list.len() > 64 => format!("{start:?} and so on"),
+        _ => format!("{list:?}"),
+    }
+}
+
+fn name(operation: Operation) -> &'static str {
+    match operation {
+        Operation::Encode => "encode",
+        Operation::Broken => "broken",
+        Operation::Write => "write",
+        Operation::RebuildCells => "rebuild cells",
+        Operation::RebuildColumns => "rebuild columns",
+        Operation::BadColumn => "bad column",
+    }
+}
+
+/// How many calls of each kind got which answer, to show that all of them came up: by
+/// operation, and by refusal and finding.
+#[derive(Default)]
+struct Tally(BTreeMap<Operation, BTreeMap<(u64, u64), usize>>);
+
+impl Tally {
+    fn add(&mut self, operation: Operation, answer: Answer) {
+        let answers = self.0.entry(operation).or_default();
+        *answers.entry((answer.refusal, answer.finding)).or_default() += 1;
+    }
+
+    fn calls(&self) -> usize {
+        self.0.values().flat_map(|answers| answers.values()).sum()
+    }
+
+    fn print(&self) {
+        for (&operation, answers) in &self.0 {
+            let what = |(refusal, finding): &(u64, u64)| match (refusal, operation) {
+                (0, Operation::BadColumn) => ["nothing", "clean", "column", "unexplained"][(*finding).min(3) as usize].into(),
+                (0, _) => "done".into(),
+                _ => format!("refusal {refusal}"),
+            };
+            let parts: Vec<String> = answers
+                .iter()
+                .map(|(answer, calls)| format!("{}: {}", what(answer), with_commas(*calls)))
+                .collect();
+            println!("  {} {} ({})", name(operation), with_commas(answers.values().sum()), parts.join(", "));
+        }
+    }
 }
 
 /// How far the run is, on standard error.

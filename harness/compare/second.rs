@@ -1,6 +1,9 @@
 //! The second program: the calls as the scope document words them, simple and
 //! slow, and made without a look at the library.
 
+use crate::lost::Rebuilt;
+use std::fmt;
+
 pub const PRIMES: [u64; 10] = [3, 5, 7, 11, 13, 17, 19, 23, 29, 31];
 
 #[derive(Clone, Copy, PartialEq, Debug)]
@@ -10,15 +13,28 @@ pub struct Shape {
     pub cell: u64,
 }
 
-#[derive(Clone, Copy, PartialEq, Debug)]
+#[derive(Clone, Copy, PartialEq, Eq, PartialOrd, Ord)]
 pub enum Operation {
     Encode = 1,
     Broken = 2,
     Write = 3,
+    RebuildCells = 4,
+    RebuildColumns = 5,
+    BadColumn = 6,
+}
+
+impl Operation {
+    pub fn only_reads(self) -> bool {
+        matches!(self, Operation::Broken | Operation::BadColumn)
+    }
+
+    pub fn rebuilds(self) -> bool {
+        matches!(self, Operation::RebuildCells | Operation::RebuildColumns)
+    }
 }
 
 /// What a call is told beside the bytes. Row, column and the length of the new
-/// bytes are for a small write.
+/// bytes are for a small write, the columns for a rebuild of columns.
 #[derive(Clone, Copy)]
 pub struct Call {
     pub operation: Operation,
@@ -27,28 +43,63 @@ pub struct Call {
     pub row: u64,
     pub column: u64,
     pub bytes_length: u64,
+    pub columns: [u64; 2],
 }
 
+impl Call {
+    pub const fn new(operation: Operation, shape: Shape, length: u64) -> Call {
+        Call { operation, shape, length, row: 0, column: 0, bytes_length: 0, columns: [0, 0] }
+    }
+}
+
+/// What a call doesn't give is 0.
 #[derive(Clone, Copy, PartialEq, Debug)]
 pub struct Answer {
     pub refusal: u64,
     pub count: u64,
+    pub finding: u64,
+    pub column: u64,
+}
+
+impl fmt::Display for Answer {
+    fn fmt(&self, to: &mut fmt::Formatter) -> fmt::Result {
+        let Answer { refusal, count, finding, column } = self;
+        write!(to, "refusal {refusal} count {count} finding {finding} column {column}")
+    }
+}
+
+pub const CLEAN: u64 = 1;
+pub const COLUMN: u64 = 2;
+pub const UNEXPLAINED: u64 = 3;
+
+impl Answer {
+    pub const fn refused(refusal: u64) -> Answer {
+        Answer { refusal, count: 0, finding: 0, column: 0 }
+    }
+
+    pub const fn counted(count: u64) -> Answer {
+        Answer { refusal: 0, count, finding: 0, column: 0 }
+    }
+
+    pub const fn found(finding: u64, column: u64) -> Answer {
+        Answer { refusal: 0, count: 0, finding, column }
+    }
 }
 
 /// (row, column)
 pub type Position = (usize, usize);
 
 /// The parity cell is the XOR of the sources.
-struct Equation {
-    parity: Position,
-    sources: Vec<Position>,
+pub struct Equation {
+    pub parity: Position,
+    pub sources: Vec<Position>,
 }
 
 /// A stripe's rows, columns and equations, first family first.
 pub struct Layout {
     pub rows: usize,
     pub columns: usize,
-    equations: Vec<Equation>,
+    pub equations: Vec<Equation>,
 }
 
 impl Layout {
@@ -77,7 +128,7 @@ impl Layout {
         }
     }
 
-    fn broken(&self, cell: usize, stripe: &[u8]) -> u64 {
+    pub fn broken(&self, cell: usize, stripe: &[u8]) -> u64 {
         let fails = |equation: &&Equation| {
             let start = self.start(equation.parity, cell);
             stripe[start..start + cell] != self.xor(&equation.sources, cell, stripe)
@@ -115,9 +166,18 @@ impl Layout {
         self.equations.iter().any(|equation| equation.parity == position)
     }
 
-    /// Where a cell's bytes start: cell number = column x rows + row.
-    pub fn start(&self, (row, column): Position, cell: usize) -> usize {
-        (column * self.rows + row) * cell
+    pub fn number(&self, (row, column): Position) -> usize {
+        column * self.rows + row
+    }
+
+    /// Where a cell's bytes start.
+    pub fn start(&self, position: Position, cell: usize) -> usize {
+        self.number(position) * cell
+    }
+
+    /// The numbers of the cells of two columns, which may be one.
+    pub fn in_columns(&self, a: usize, b: usize) -> Vec<usize> {
+        (0..self.cells()).filter(|n| [a, b].contains(&(n / self.rows))).collect()
     }
 
     fn xor(&self, sources: &[Position], cell: usize, stripe: &[u8]) -> Vec<u8> {
@@ -181,8 +241,8 @@ impl Second {
         Some(layout.cells() as u64 * cell)
     }
 
-    /// The lowest refusal number that applies, or 0.
-    pub fn refusal(&self, call: &Call) -> u64 {
+    /// The lowest refusal number that applies before the bytes are looked at, or 0.
+    pub fn refusal(&self, call: &Call, lost: &[u64]) -> u64 {
         let shape = call.shape;
         let Some(layout) = self.layout(shape.code, shape.p) else {
             return if (1..=3).contains(&shape.code) { 2 } else { 1 };
@@ -191,34 +251,95 @@ impl Second {
             4
         } else if self.length(shape) != Some(call.length) {
             5
-        } else if call.operation != Operation::Write {
-            0
-        } else if call.row >= layout.rows as u64 || call.column >= layout.columns as u64 {
-            6
-        } else if layout.is_parity((call.row as usize, call.column as usize)) {
-            7
-        } else if call.bytes_length != shape.cell {
-            8
         } else {
-            0
+            match call.operation {
+                Operation::Write => write_refusal(call, layout),
+                Operation::RebuildCells if lost.iter().any(|&n| n >= layout.cells() as u64) => 6,
+                Operation::RebuildColumns if call.columns.iter().any(|&n| n >= layout.columns as u64) => 6,
+                _ => 0,
+            }
         }
     }
 
-    /// Makes a call with a stripe and new bytes.
-    pub fn call(&self, call: &Call, stripe: &mut [u8], bytes: &[u8]) -> Answer {
-        let refusal = self.refusal(call);
-        let mut count = 0;
-        if let (0, Some(layout)) = (refusal, self.layout(call.shape.code, call.shape.p)) {
-            let (cell, position) = (call.shape.cell as usize, (call.row as usize, call.column as usize));
-            match call.operation {
-                Operation::Encode => layout.encode(cell, stripe),
-                Operation::Broken => count = layout.broken(cell, stripe),
-                Operation::Write => {
-                    layout.write(position, bytes, stripe);
-                    count = layout.dependents(position);
+    /// Makes a call with a stripe, new bytes and a list of lost cells. Fails where the
+    /// scope document's own words contradict each other.
+    pub fn call(&self, call: &Call, stripe: &mut [u8], bytes: &[u8], lost: &[u64]) -> Result<Answer, String> {
+        let refusal = self.refusal(call, lost);
+        let (0, Some(layout)) = (refusal, self.layout(call.shape.code, call.shape.p)) else {
+            return Ok(Answer::refused(refusal));
+        };
+        let cell = call.shape.cell as usize;
+        match call.operation {
+            Operation::Encode => {
+                layout.encode(cell, stripe);
+                Ok(Answer::refused(0))
+            }
+            Operation::Broken => Ok(Answer::counted(layout.broken(cell, stripe))),
+            Operation::Write => {
+                let position = (call.row as usize, call.column as usize);
+                layout.write(position, bytes, stripe);
+                Ok(Answer::counted(layout.dependents(position)))
+            }
+            Operation::RebuildCells => {
+                let lost: Vec<usize> = lost.iter().map(|&n| n as usize).collect();
+                rebuild(layout, cell, stripe, &lost)
+            }
+            Operation::RebuildColumns => {
+                let [a, b] = call.columns.map(|n| n as usize);
+                match rebuild(layout, cell, stripe, &layout.in_columns(a, b))? {
+                    Answer { refusal: 11, .. } => Err(format!("columns {a} and {b} are undetermined")),
+                    answer => Ok(answer),
                 }
             }
+            Operation::BadColumn => bad_column(layout, cell, stripe),
         }
-        Answer { refusal, count }
+    }
+}
+
+fn write_refusal(call: &Call, layout: &Layout) -> u64 {
+    if call.row >= layout.rows as u64 || call.column >= layout.columns as u64 {
+        6
+    } else if layout.is_parity((call.row as usize, call.column as usize)) {
+        7
+    } else if call.bytes_length != call.shape.cell {
+        8
+    } else {
+        0
+    }
+}
+
+fn rebuild(layout: &Layout, cell: usize, stripe: &mut [u8], lost: &[usize]) -> Result<Answer, String> {
+    match layout.rebuilt(cell, stripe, lost) {
+        Rebuilt::Undetermined => Ok(Answer::refused(11)),
+        Rebuilt::Disagree => Ok(Answer::refused(12)),
+        Rebuilt::Cells(cells) => {
+            for (n, bytes) in cells {
+                stripe[n * cell..(n + 1) * cell].copy_from_slice(&bytes);
+            }
+            match layout.broken(cell, stripe) {
+                0 => Ok(Answer::refused(0)),
+                count => Err(format!("{count} equations fail in the rebuilt stripe")),
+            }
+        }
+    }
+}
+
+/// Tries every column: would the rebuild of it alone succeed?
+fn bad_column(layout: &Layout, cell: usize, stripe: &[u8]) -> Result<Answer, String> {
+    if layout.broken(cell, stripe) == 0 {
+        return Ok(Answer::found(CLEAN, 0));
+    }
+    let mut would_do = Vec::new();
+    for column in 0..layout.columns {
+        match layout.rebuilt(cell, stripe, &layout.in_columns(column, column)) {
+            Rebuilt::Cells(_) => would_do.push(column),
+            Rebuilt::Disagree => {}
+            Rebuilt::Undetermined => return Err(format!("column {column} is undetermined")),
+        }
+    }
+    match would_do[..] {
+        [] => Ok(Answer::found(UNEXPLAINED, 0)),
+        [column] => Ok(Answer::found(COLUMN, column as u64)),
+        _ => Err(format!("the columns {would_do:?} would do, each alone")),
     }
 }

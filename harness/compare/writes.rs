@@ -1,9 +1,8 @@
 //! Which small writes are compared.
 
-use crate::bridge::{Loan, Place};
-use crate::cases::{Case, Cases, Fill, New};
-use crate::second::{Call, Operation, Position, Shape, PRIMES};
-use Operation::{Broken, Write};
+use crate::cases::{any_p, codes, edge_shapes, Case, Cases, New};
+use crate::fills::Fill;
+use crate::second::{Call, Operation::Write, Position, Shape};
 
 const SMALL_CELLS: [u64; 12] = [1, 2, 3, 7, 31, 64, 127, 128, 129, 255, 256, 257];
 const LARGE_CELLS: [u64; 3] = [512, 1000, 4096];
@@ -17,35 +16,18 @@ impl Cases<'_> {
         self.bad_writes();
         self.wrong_new_bytes();
         self.far_positions();
-        self.write_every_p();
+        self.write_any_p();
     }
 
-    /// Lends in any place, and sealed only what the call may not write.
-    pub fn push_call(&mut self, call: Call, fill: Fill, new: New) {
-        let (stripe, bytes) = (self.place(call.length), self.place(call.bytes_length));
-        self.push_lent(call, fill, new, stripe, bytes);
-    }
-
-    fn push_lent(&mut self, call: Call, fill: Fill, new: New, stripe: Place, bytes: Place) {
-        let still = call.operation == Broken || self.second.refusal(&call) != 0;
-        let stripe = Loan { place: stripe, sealed: still && self.random.below(4) == 0 };
-        let bytes = Loan { place: bytes, sealed: self.random.below(2) == 0 };
-        self.list.push(Case { call, fill, new, stripe, bytes });
-    }
-
-    fn place(&mut self, length: u64) -> Place {
-        let places = self.places();
-        if length == 0 && self.random.below(2) == 0 {
-            Place::Null
-        } else {
-            self.random.one_of(&places)
-        }
+    fn push_write(&mut self, call: Call, fill: Fill, new: New) {
+        let case = Case { new, ..self.case(call, fill) };
+        self.list.push(case);
     }
 
     fn write(&self, shape: Shape, (row, column): Position) -> Call {
         let length = self.second.length(shape).expect("a good shape");
         let (row, column) = (row as u64, column as u64);
-        Call { operation: Write, shape, length, row, column, bytes_length: shape.cell }
+        Call { row, column, bytes_length: shape.cell, ..Call::new(Write, shape, length) }
     }
 
     /// A random position of data or of parity.
@@ -62,19 +44,19 @@ impl Cases<'_> {
     /// Every row and column from 0 to p + 1, so that all that lie in the stripe are
     /// among them, swapped too. Above p = 13 one call for each, else three.
     fn every_position(&mut self) {
-        for (code, p) in (1..=3).flat_map(|code| PRIMES.map(|p| (code, p))) {
+        for (code, p) in codes() {
             let side = p as usize + 2;
             for position in (0..side).flat_map(|row| (0..side).map(move |column| (row, column))) {
                 let cell = self.random.one_of(&[1, 2, 3, 7]);
                 let call = self.write(Shape { code, p, cell }, position);
                 let (fill, new) = (self.random.one_of(&FILLS), self.random.one_of(&NEWS));
                 if p > 13 {
-                    self.push_call(call, fill, new);
+                    self.push_write(call, fill, new);
                     continue;
                 }
-                self.push_call(call, Fill::Encoded, New::Random);
-                self.push_call(call, Fill::Random, New::Random);
-                self.push_call(call, fill, New::Same);
+                self.push_write(call, Fill::Encoded, New::Random);
+                self.push_write(call, Fill::Random, New::Random);
+                self.push_write(call, fill, New::Same);
             }
         }
     }
@@ -82,7 +64,7 @@ impl Cases<'_> {
     /// The listed cell sizes: the small ones for all primes in all places, the
     /// large ones for the smallest primes in all places and for the largest in one.
     fn write_shapes(&mut self) {
-        for (code, p) in (1..=3).flat_map(|code| PRIMES.map(|p| (code, p))) {
+        for (code, p) in codes() {
             for cell in SMALL_CELLS {
                 self.all_places(Shape { code, p, cell });
             }
@@ -91,7 +73,7 @@ impl Cases<'_> {
                 if p <= 7 {
                     self.all_places(shape);
                 } else if p == 31 {
-                    self.push_write(shape);
+                    self.random_data(shape);
                 }
             }
         }
@@ -100,29 +82,24 @@ impl Cases<'_> {
     fn all_places(&mut self, shape: Shape) {
         for stripe in self.places() {
             for bytes in self.places() {
-                let position = self.position(shape, false);
-                let (fill, new) = (self.random.one_of(&FILLS), self.random.one_of(&NEWS));
-                self.push_lent(self.write(shape, position), fill, new, stripe, bytes);
+                self.random_data(shape);
+                let case = self.list.last_mut().expect("a write");
+                (case.stripe.place, case.bytes.place) = (stripe, bytes);
             }
         }
     }
 
-    fn push_write(&mut self, shape: Shape) {
+    /// A write into any data cell.
+    fn random_data(&mut self, shape: Shape) {
         let position = self.position(shape, false);
         let (fill, new) = (self.random.one_of(&FILLS), self.random.one_of(&NEWS));
-        self.push_call(self.write(shape, position), fill, new);
+        self.push_write(self.write(shape, position), fill, new);
     }
 
     /// Every parameter good, at 0, one past its range and at its most, in all
     /// combinations: the lowest refusal number must come.
     fn bad_writes(&mut self) {
-        for code in [0, 1, 2, 3, 4, u64::MAX] {
-            for p in [0, 5, 32, u64::MAX] {
-                for cell in [0, 3, 4097, u64::MAX] {
-                    self.bad_operands(Shape { code, p, cell });
-                }
-            }
-        }
+        edge_shapes().for_each(|shape| self.bad_operands(shape));
     }
 
     fn bad_operands(&mut self, shape: Shape) {
@@ -138,8 +115,8 @@ impl Cases<'_> {
             for row in rows {
                 for column in columns {
                     for bytes_length in [0, cell, cell + 1, u64::MAX] {
-                        let call = Call { operation: Write, shape, length, row, column, bytes_length };
-                        self.push_call(call, Fill::Random, New::Random);
+                        let call = Call { row, column, bytes_length, ..Call::new(Write, shape, length) };
+                        self.push_write(call, Fill::Random, New::Random);
                     }
                 }
             }
@@ -158,7 +135,7 @@ impl Cases<'_> {
                 for bytes_length in near.into_iter().chain(beyond) {
                     for position in [data, parity, (data.0, p as usize + 1)] {
                         let call = Call { bytes_length, ..self.write(shape, position) };
-                        self.push_call(call, Fill::Encoded, New::Random);
+                        self.push_write(call, Fill::Encoded, New::Random);
                     }
                 }
             }
@@ -168,13 +145,13 @@ impl Cases<'_> {
     /// Rows and columns that look like good ones when cut short, and those that name
     /// a cell of the stripe by its number alone.
     fn far_positions(&mut self) {
-        for (code, p) in (1..=3).flat_map(|code| PRIMES.map(|p| (code, p))) {
+        for (code, p) in codes() {
             let shape = Shape { code, p, cell: 1 };
             let rows = self.second.layout(code, p).expect("a good shape").rows as u64;
             let position = self.position(shape, false);
             let call = self.write(shape, position);
             let mut push =
-                |row, column| self.push_call(Call { row, column, ..call }, Fill::Encoded, New::Random);
+                |row, column| self.push_write(Call { row, column, ..call }, Fill::Encoded, New::Random);
             for far in [1 << 8, 1 << 16, 1 << 32, 1 << 62, 1 << 63] {
                 push(call.row + far, call.column);
                 push(call.row, call.column + far);
@@ -186,14 +163,10 @@ impl Cases<'_> {
         }
     }
 
-    /// Every p up to past 128, each with the length that would be right for it.
-    fn write_every_p(&mut self) {
-        for p in 0..=133u64 {
-            for (code, length) in [(1, (p * p).wrapping_sub(1)), (2, (p * p).wrapping_sub(1)), (3, p * p)] {
-                let shape = Shape { code, p, cell: 1 };
-                let call = Call { operation: Write, shape, length, row: 0, column: 0, bytes_length: 1 };
-                self.push_call(call, Fill::Random, New::Random);
-            }
+    fn write_any_p(&mut self) {
+        for (shape, length) in any_p() {
+            let call = Call { bytes_length: 1, ..Call::new(Write, shape, length) };
+            self.push_write(call, Fill::Random, New::Random);
         }
     }
 
@@ -207,6 +180,6 @@ impl Cases<'_> {
             call.bytes_length = self.random.below(4200) as u64;
         }
         let (fill, new) = (self.random.one_of(&FILLS), self.random.one_of(&NEWS));
-        self.push_call(call, fill, new);
+        self.push_write(call, fill, new);
     }
 }

@@ -1,6 +1,8 @@
-// Encodes a small RDP stripe (p = 3, cells of one byte) and shows it before and after; then a stripe that is refused.
+// A small RDP stripe (p = 3, cells of one byte): encoded, with two columns lost and back again, with losses that can't be made good,
+// and with a bad column.
 use codes::Shape;
 use libc::STDOUT_FILENO;
+use rebuild::BadColumn;
 use stripe::BrokenCount;
 
 // Shows a byte.
@@ -24,6 +26,13 @@ fn show(stripe: [u8; 8]) {
     show_row(stripe[1], stripe[3], stripe[5], stripe[7]);
 }
 
+// Says that a call is refused.
+fn tell_refused(number: usize) {
+    io::write_all(STDOUT_FILENO, b"refused with number ");
+    io::print_decimal(STDOUT_FILENO, number as u64);
+    io::write_all(STDOUT_FILENO, b"\n");
+}
+
 // Says how many equations of a stripe fail, or why the call is refused.
 fn tell_broken(shape: Shape, stripe: &[u8]) {
     match stripe::broken(shape, stripe) {
@@ -31,11 +40,34 @@ fn tell_broken(shape: Shape, stripe: &[u8]) {
             io::print_decimal(STDOUT_FILENO, count as u64);
             io::write_all(STDOUT_FILENO, b" of 4 equations fail\n");
         }
-        BrokenCount::Refused(number) => {
-            io::write_all(STDOUT_FILENO, b"refused with number ");
-            io::print_decimal(STDOUT_FILENO, number as u64);
+        BrokenCount::Refused(number) => tell_refused(number),
+    }
+}
+
+// Says what a rebuild answers.
+fn tell_rebuilt(answer: usize) {
+    if answer == 0 {
+        io::write_all(STDOUT_FILENO, b"rebuilt\n");
+    } else {
+        tell_refused(answer);
+    }
+}
+
+// Says which column of a stripe is bad.
+fn tell_bad(shape: Shape, stripe: &[u8]) {
+    match rebuild::bad_column(shape, stripe) {
+        BadColumn::Clean => {
+            io::write_all(STDOUT_FILENO, b"clean\n");
+        }
+        BadColumn::Column(column) => {
+            io::write_all(STDOUT_FILENO, b"the bad column is ");
+            io::print_decimal(STDOUT_FILENO, column as u64);
             io::write_all(STDOUT_FILENO, b"\n");
         }
+        BadColumn::Unexplained => {
+            io::write_all(STDOUT_FILENO, b"unexplained\n");
+        }
+        BadColumn::Refused(number) => tell_refused(number),
     }
 }
 
@@ -56,6 +88,26 @@ fn main() {
     io::write_all(STDOUT_FILENO, b"encoded\n");
     show(stripe);
     tell_broken(shape, &stripe);
+    stripe[0] = 0xEE;
+    stripe[1] = 0xEE;
+    stripe[2] = 0xEE;
+    stripe[3] = 0xEE;
+    io::write_all(STDOUT_FILENO, b"columns 0 and 1 are lost: all the data\n");
+    show(stripe);
+    tell_rebuilt(rebuild::columns(shape, &mut stripe, 0, 1));
+    show(stripe);
+    io::write_all(
+        STDOUT_FILENO,
+        b"cells 0, 4 and 6 are lost, a cell with both its parity cells: more than one stripe would fit (11)\n",
+    );
+    tell_rebuilt(rebuild::cells(shape, &mut stripe, &[0usize, 4, 6]));
+    stripe[3] = 0x09;
+    io::write_all(
+        STDOUT_FILENO,
+        b"cell 0 is lost, and a bit of cell 3 went bad that nobody names: no stripe would fit (12)\n",
+    );
+    tell_rebuilt(rebuild::cells(shape, &mut stripe, &[0usize]));
+    tell_bad(shape, &stripe);
     io::write_all(
         STDOUT_FILENO,
         b"the same bytes with p = 4, which is no prime of the list\n",

@@ -1,20 +1,24 @@
 -- Every row of the table holds: one test that antt computes over the whole table, and a law that turns the test into each row's claim.
-use mathlib.Core.Path.{_≡_, refl}
+use mathlib.Core.Path.{_≡_, refl, sym, _∙_, subst}
 use mathlib.Core.List.{List, [], _∷_}
-use mathlib.Core.Bool.{Bool, true, false, not, _&&_}
+use mathlib.Core.Bool.{Bool, true, false, not, _&&_, xor}
 use Prim.Native.Nat.{ℕ, _<_}
-use lib.Dec.{eqb}
-use lib.ListN.{length, getD}
-use borrow.Author.Tests.{eqb-true, not-false, not-true}
+use native.Mathlib.Omega.{arith}
+use lib.Dec.{eqb, ltb}
+use lib.ListN.{length, getD, List·getD-eq-default}
+use borrow.Author.Tests.{eqb-true, eq-eqb, ltb-true, not-false, not-true}
 use Rattle.xor.specs.Xor.{_⊕_, xors}
 use Rattle.xor.specs.Sets.{any, count}
-use Rattle.xor.proofs.Cases.{and-left, and-right}
-use Rattle.xor.proofs.Sets.{any-none}
+use Rattle.xor.proofs.Cases.{by-less, clash, and-left, and-right}
+use Rattle.xor.proofs.Sets.{any-none, any-some}
+use Rattle.solve.specs.Solution.{syndrome}
+use Rattle.solve.specs.Method.{run, lowest}
 use Rattle.codes.specs.declared.Shape.{Shape}
-use Rattle.codes.specs.Shape.{listed, rows, columns, equations, cells, cellNumber, stripeLength}
+use Rattle.codes.specs.Shape.{listed, rows, columns, equations, cells, cellNumber, stripeLength, WellFormed}
 use Rattle.codes.specs.Equations.{equation}
 use Rattle.codes.specs.Encoded.{parityCell, sumsCell, byteAt, sumOver, parityByte, isParity, Encoded, fails, brokenEquations}
 use Rattle.codes.specs.Refusals.{order, applies, firstOf, refusal, stripeFaults, writeFaults}
+use Rattle.codes.specs.Holders.{holds}
 use Rattle.codes.specs.Depends.{WriteRight}
 use Rattle.codes.proofs.Refused.{accepted, write-accepted}
 use Rattle.codes.proofs.Positions.{cell-inside}
@@ -22,17 +26,14 @@ use Rattle.stripe.specs.Write.{Written, Depending}
 use Rattle.stripe.proofs.Encoding.{settled}
 use Rattle.stripe.proofs.Parts.{point}
 use Rattle.stripe.proofs.Exists.{unit-exists, written-by}
-use Rattle.zijraduf.specs.Examples.{Claim, encoded, broken, written, Example, table, Claims, Holds, AllHold}
-
--- no equation fails: the stripe is encoded
-none-fails : (s : Shape) (stripe : List ℕ) → any (equations s) (fails s stripe) ≡ false → Encoded s stripe
-unfolding fails
-none-fails s stripe h = record {
-  holds = λ q lq t lt.
-      eqb-true (byteAt s stripe (parityCell s q) t) (parityByte s stripe q t)
-      (not-false (eqb (byteAt s stripe (parityCell s q) t) (parityByte s stripe q t))
-      (any-none (s .cell) (λ u. not (eqb (byteAt s stripe (parityCell s q) u) (parityByte s stripe q u))) (any-none (equations s) (fails s stripe) h q lq) t lt));
-}
+use Rattle.rebuild.specs.declared.BadColumn.{BadColumn}
+use Rattle.rebuild.specs.declared.BadColumn.the-variants.{Clean, Column, Unexplained, Refused}
+use Rattle.rebuild.specs.Rebuild.{named, inColumns}
+use Rattle.rebuild.specs.Bad.{Replaceable, badNumber, Finding}
+use Rattle.rebuild.proofs.OneBad.{none-fails}
+use Rattle.rebuild.proofs.Never.{columns-determined}
+use Rattle.rebuild.proofs.Computed.{outcome, stops, stops-undetermined, passes-determined, fits, fits-restores, unfit-none}
+use Rattle.zijraduf.specs.Examples.{Claim, encoded, broken, written, undetermined, determined, found, Example, table, Claims, Holds, AllHold}
 
 -- the difference put alone and encoded, byte t of it in cell k
 differing : Shape → ℕ → List ℕ → List ℕ → ℕ → ℕ → ℕ
@@ -45,12 +46,30 @@ unwritten s c stripe bytes new = any (cells s) (λ k. any (s .cell) (λ t. not (
 depending : Shape → ℕ → ℕ
 depending s c = count (cells s) (λ k. isParity s k && not (eqb (settled s (equations s) (point c 1) k) 0))
 
+-- whether the replacement of column c alone makes the stripe encoded
+replaces : Shape → List ℕ → ℕ → Bool
+replaces s stripe c = fits s (inColumns s c c) stripe (outcome s (inColumns s c c))
+
+-- whether some number of a list is no byte
+wide : List ℕ → Bool
+wide stripe = any (length stripe) (λ i. not (ltb (getD stripe i 0) 256))
+
+-- whether bad column's finding is so
+finds : Shape → List ℕ → BadColumn → Bool
+finds s stripe Clean = not (any (equations s) (fails s stripe))
+finds s stripe (Column c) = any (equations s) (fails s stripe) && (not (wide stripe) && (ltb c (columns s) && replaces s stripe c))
+finds s stripe Unexplained = any (equations s) (fails s stripe) && not (any (columns s) (replaces s stripe))
+finds s stripe (Refused number) = false
+
 claimed : Shape → List ℕ → Claim → Bool
 claimed s stripe encoded = not (any (equations s) (fails s stripe))
 claimed s stripe (broken n) = eqb (brokenEquations s stripe) n
 claimed s stripe (written row column bytes new n) =
     eqb (refusal (writeFaults s (length stripe) row column (length bytes))) 0
     && (eqb (length new) (length stripe) && (not (unwritten s (cellNumber s row column) stripe bytes new) && eqb n (depending s (cellNumber s row column))))
+claimed s stripe (undetermined lost) = stops (outcome s (named lost))
+claimed s stripe (determined lost) = not (stops (outcome s (named lost)))
+claimed s stripe (found finding) = finds s stripe finding
 
 module _ (s : Shape) (stripe : List ℕ) (row column : ℕ) (bytes new : List ℕ) (n : ℕ) (h : claimed s stripe (written row column bytes new n) ≡ true) where
   c : ℕ
@@ -95,11 +114,67 @@ module _ (s : Shape) (stripe : List ℕ) (row column : ℕ) (bytes new : List �
     size = eqb-true n (depending s c) (and-right (not (unwritten s c stripe bytes new)) (eqb n (depending s c)) last);
   }
 
-claimed-so : (s : Shape) (stripe : List ℕ) (c : Claim) → claimed s stripe c ≡ true → Claims s stripe c
+-- no equation fails: the stripe is encoded
+is-clean : (s : Shape) (stripe : List ℕ) → not (any (equations s) (fails s stripe)) ≡ true → Encoded s stripe
+is-clean s stripe h = none-fails s stripe (any-none (equations s) (fails s stripe) (not-true (any (equations s) (fails s stripe)) h))
+
+-- some equation fails: the stripe is not encoded
+some-fails : (s : Shape) (stripe : List ℕ) → any (equations s) (fails s stripe) ≡ true → Encoded s stripe → ⊥
+unfolding fails
+some-fails s stripe h e =
+    let q = any-some (equations s) (fails s stripe) h in
+    let t = any-some (s .cell) (λ u. not (eqb (byteAt s stripe (parityCell s (q .0)) u) (parityByte s stripe (q .0) u))) (q .2) in
+    clash (eq-eqb (byteAt s stripe (parityCell s (q .0)) (t .0)) (parityByte s stripe (q .0) (t .0)) (e .holds (q .0) (q .1) (t .0) (t .1)))
+    (not-true (eqb (byteAt s stripe (parityCell s (q .0)) (t .0)) (parityByte s stripe (q .0) (t .0))) (t .2))
+
+not-wide : (stripe : List ℕ) → wide stripe ≡ false → (i : ℕ) → getD stripe i 0 < 256
+unfolding wide
+not-wide stripe h i =
+    by-less i (length stripe)
+    (λ l. ltb-true (getD stripe i 0) 256 (not-false (ltb (getD stripe i 0) 256) (any-none (length stripe) (λ k. not (ltb (getD stripe k 0) 256)) h i l)))
+    (λ l. subst (λ (x : ℕ). x < 256) (sym (List·getD-eq-default stripe 0 l)) (omega arith))
+
+module _ (s : Shape) (w : WellFormed s) (stripe : List ℕ) where
+  is-replaceable : wide stripe ≡ false → (c : ℕ) → c < columns s → replaces s stripe c ≡ true → Replaceable s stripe c
+  unfolding replaces
+  is-replaceable bytes c l h = let new = fits-restores s w (inColumns s c c) stripe (not-wide stripe bytes) h in record { inside = l; replaced = new .0; restores = new .1 }
+
+  none-replaceable : any (columns s) (replaces s stripe) ≡ false → (c : ℕ) → Replaceable s stripe c → ⊥
+  unfolding replaces
+  none-replaceable h c r =
+      unfit-none s w (inColumns s c c) stripe (columns-determined s w c c (r .inside) (r .inside)) (any-none (columns s) (replaces s stripe) h c (r .inside)) (r .replaced) (r .restores)
+
+  is-found : (answer : BadColumn) → finds s stripe answer ≡ true → Finding s stripe answer
+  unfolding finds
+  is-found Clean h = is-clean s stripe h
+  is-found (Column c) h =
+      let later = and-right (any (equations s) (fails s stripe)) (not (wide stripe) && (ltb c (columns s) && replaces s stripe c)) h in
+      let last = and-right (not (wide stripe)) (ltb c (columns s) && replaces s stripe c) later in (
+        some-fails s stripe (and-left (any (equations s) (fails s stripe)) (not (wide stripe) && (ltb c (columns s) && replaces s stripe c)) h),
+        is-replaceable (not-true (wide stripe) (and-left (not (wide stripe)) (ltb c (columns s) && replaces s stripe c) later)) c
+            (ltb-true c (columns s) (and-left (ltb c (columns s)) (replaces s stripe c) last)) (and-right (ltb c (columns s)) (replaces s stripe c) last),
+      )
+  is-found Unexplained h = (
+    some-fails s stripe (and-left (any (equations s) (fails s stripe)) (not (any (columns s) (replaces s stripe))) h),
+    none-replaceable (not-true (any (columns s) (replaces s stripe)) (and-right (any (equations s) (fails s stripe)) (not (any (columns s) (replaces s stripe))) h)),
+  )
+  is-found (Refused number) h = clash h refl
+
+found-number : (s : Shape) (stripe : List ℕ) (answer : BadColumn) → finds s stripe answer ≡ true → badNumber answer ≡ 0
+unfolding finds
+found-number s stripe Clean h = refl
+found-number s stripe (Column c) h = refl
+found-number s stripe Unexplained h = refl
+found-number s stripe (Refused number) h = clash h refl
+
+claimed-so : (s : Shape) (stripe : List ℕ) (c : Claim) → refusal (stripeFaults s (length stripe)) ≡ 0 → claimed s stripe c ≡ true → Claims s stripe c
 unfolding claimed c
-claimed-so s stripe encoded h = none-fails s stripe (not-true (any (equations s) (fails s stripe)) h)
-claimed-so s stripe (broken n) h = eqb-true (brokenEquations s stripe) n h
-claimed-so s stripe (written row column bytes new n) h = (is-written s stripe row column bytes new n h, is-depending s stripe row column bytes new n h)
+claimed-so s stripe encoded right h = is-clean s stripe h
+claimed-so s stripe (broken n) right h = eqb-true (brokenEquations s stripe) n h
+claimed-so s stripe (written row column bytes new n) right h = (is-written s stripe row column bytes new n h, is-depending s stripe row column bytes new n h)
+claimed-so s stripe (undetermined lost) right h = stops-undetermined s (accepted s (length stripe) right .0) (named lost) h
+claimed-so s stripe (determined lost) right h = passes-determined s (accepted s (length stripe) right .0) (named lost) (not-true (stops (outcome s (named lost))) h)
+claimed-so s stripe (found answer) right h = record { number = found-number s stripe answer h ∙ sym right; finding = λ z. is-found s (accepted s (length stripe) right .0) stripe answer h }
 
 passes : List Example → Bool
 passes [] = true
@@ -107,12 +182,13 @@ passes (e ∷ rows′) = (eqb (refusal (stripeFaults (e .shape) (length (e .stri
 
 row-holds : (e : Example) → (eqb (refusal (stripeFaults (e .shape) (length (e .stripe)))) 0 && claimed (e .shape) (e .stripe) (e .claim)) ≡ true → Holds e
 row-holds e h =
-    let right = accepted (e .shape) (length (e .stripe)) (eqb-true (refusal (stripeFaults (e .shape) (length (e .stripe)))) 0
-    (and-left (eqb (refusal (stripeFaults (e .shape) (length (e .stripe)))) 0) (claimed (e .shape) (e .stripe) (e .claim)) h)) in
+    let none = eqb-true (refusal (stripeFaults (e .shape) (length (e .stripe)))) 0
+    (and-left (eqb (refusal (stripeFaults (e .shape) (length (e .stripe)))) 0) (claimed (e .shape) (e .stripe) (e .claim)) h) in
+    let right = accepted (e .shape) (length (e .stripe)) none in
     record {
       formed = right .0;
       long = right .1;
-      so = claimed-so (e .shape) (e .stripe) (e .claim) (and-right (eqb (refusal (stripeFaults (e .shape) (length (e .stripe)))) 0) (claimed (e .shape) (e .stripe) (e .claim)) h);
+      so = claimed-so (e .shape) (e .stripe) (e .claim) none (and-right (eqb (refusal (stripeFaults (e .shape) (length (e .stripe)))) 0) (claimed (e .shape) (e .stripe) (e .claim)) h);
     }
 
 all-hold : (rows′ : List Example) → passes rows′ ≡ true → AllHold rows′
@@ -124,5 +200,5 @@ all-hold (e ∷ rows′) h =
 
 -- the theorem over the table
 pub examples-hold : AllHold table
-unfolding table passes claimed unwritten differing depending settled isParity writeFaults refusal firstOf order applies stripeFaults listed rows columns equations cells cellNumber stripeLength equation parityCell sumsCell byteAt sumOver fails brokenEquations any count xors _⊕_
+unfolding table passes claimed unwritten differing depending settled isParity writeFaults refusal firstOf order applies stripeFaults listed rows columns equations cells cellNumber stripeLength equation parityCell sumsCell byteAt sumOver fails brokenEquations any count xors _⊕_ named run lowest holds xor finds replaces wide inColumns syndrome
 examples-hold = all-hold table refl

@@ -1,4 +1,4 @@
--- The two cases of broken's answer, in two numbers.
+-- Answers that are enums in Rattle, in numbers.
 use mathlib.Core.Path.{_≡_, refl, sym, ap, _∙_, subst}
 use mathlib.Core.List.{List}
 use Prim.Native.Nat.{ℕ}
@@ -17,8 +17,12 @@ use Rattle.stripe.specs.declared.WriteCount.the-variants.{ParityCells, Refused 
 use Rattle.stripe.specs.Write.{writeNumber, Depending, Writes}
 use Rattle.stripe.proofs.WriteFacts.{one-count, one-write}
 use Rattle.stripe.specs.Broken.{numberOf, Counts}
+use Rattle.rebuild.specs.declared.BadColumn.{BadColumn}
+use Rattle.rebuild.specs.Bad.{Finds}
+use Rattle.rebuild.proofs.OneAnswer.{bad-one}
 use Rattle.zijraduf.specs.declared.Count.{Count}
-use Rattle.zijraduf.specs.Export.{CountsBroken, WritesCounted}
+use Rattle.zijraduf.specs.declared.Found.{Found}
+use Rattle.zijraduf.specs.Export.{CountsBroken, WritesCounted, inNumbers, FindsInNumbers}
 
 module _ (s : Shape) (stripe : List ℕ) (answer : BrokenCount) (h : Counts s stripe answer) (n : ℕ) where
   pub from-count : answer ≡ Equations n → CountsBroken s stripe (record { refusal = 0; count = n })
@@ -96,3 +100,12 @@ exported-write-one s row column bytes old a b x y ha hb = (
         by-equal (a .refusal) 0
         (λ z. one-count s (accepted-at z .formed) (cellNumber s row column) (a .count) (b .count) (ha .count z) (hb .count (sym same ∙ z)))
         (λ n. ha .none n ∙ sym (hb .none (λ z. n (same ∙ z))))
+
+-- ---- bad column
+
+pub from-finding : (s : Shape) (stripe : List ℕ) (answer given : BadColumn) → Finds s stripe answer → answer ≡ given → FindsInNumbers s stripe (inNumbers given)
+from-finding s stripe answer given h e = record { given = given; finds = subst (Finds s stripe) e h; numbers = refl }
+
+-- any two answers that the exported bad column may give are equal
+pub exported-bad-one : (s : Shape) (stripe : List ℕ) (a b : Found) → FindsInNumbers s stripe a → FindsInNumbers s stripe b → a ≡ b
+exported-bad-one s stripe a b ha hb = ha .numbers ∙ ap inNumbers (bad-one s stripe (ha .given) (hb .given) (ha .finds) (hb .finds)) ∙ sym (hb .numbers)

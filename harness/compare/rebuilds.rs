@@ -1,0 +1,304 @@
+//! Which rebuilds are compared.
+
+use crate::bridge::Place;
+use crate::cases::{any_p, codes, edge_shapes, Case, Cases};
+use crate::fills::{Fill, FILLS};
+use crate::lists::{Base, Form, Found, Lost, Odd, FORMS};
+use crate::second::{Call, Operation, Shape};
+use Operation::{BadColumn, RebuildCells, RebuildColumns};
+
+pub const SMALL_CELLS: [u64; 6] = [1, 2, 3, 7, 31, 64];
+pub const LARGE_CELLS: [u64; 4] = [512, 513, 1000, 4096];
+
+impl Cases<'_> {
+    pub fn rebuilds(&mut self) {
+        self.every_lost_cell();
+        self.every_two_columns();
+        self.every_size();
+        self.on_the_edge();
+        self.rebuild_shapes();
+        self.long_lists();
+        self.numbers_outside();
+        self.bad_rebuilds();
+        self.rebuild_any_p();
+    }
+
+    /// A call with a stripe of the right length.
+    pub fn good_call(&self, operation: Operation, shape: Shape) -> Call {
+        Call::new(operation, shape, self.second.length(shape).expect("a good shape"))
+    }
+
+    /// A cell size for loops over many cells or columns: large ones for small p only.
+    pub fn some_cell(&mut self, p: u64) -> u64 {
+        match self.random.below(4) {
+            0 if p <= 7 => self.random.one_of(&[512, 513, 1000]),
+            1 => self.random.one_of(&SMALL_CELLS),
+            _ => self.random.one_of(&[1, 2, 3, 7]),
+        }
+    }
+
+    fn push_lost(&mut self, call: Call, fill: Fill, lost: Lost) {
+        let empty = lost.base == Base::Empty && lost.more == 0 && lost.odd == Odd::Nothing;
+        let mut case = Case { lost, ..self.case(call, fill) };
+        case.list.place = if call.operation == RebuildCells { self.list_place(empty) } else { Place::Null };
+        case.stripe.sealed = self.random.below(2) == 0;
+        self.list.push(case);
+    }
+
+    /// Some base less and more cells, in any order. In most lost cells junk is found.
+    fn some_lost(&mut self, base: Base, less: usize, more: usize) -> Lost {
+        let form = self.random.one_of(&FORMS);
+        let found = match self.random.below(8) {
+            0 => Found::Left,
+            1 => Found::Zero,
+            _ => Found::Random,
+        };
+        Lost { base, less, more, form, found, odd: Odd::Nothing }
+    }
+
+    /// Has junk found in the lost cells of the last case, so that it shows whether they
+    /// come back.
+    fn junk(&mut self) {
+        self.list.last_mut().expect("a case").lost.found = Found::Random;
+    }
+
+    fn lost_cells(&mut self, shape: Shape, fill: Fill, base: Base, less: usize, more: usize) {
+        let lost = self.some_lost(base, less, more);
+        self.push_lost(self.good_call(RebuildCells, shape), fill, lost);
+    }
+
+    /// The columns in either order.
+    fn lost_columns(&mut self, shape: Shape, fill: Fill, a: usize, b: usize) {
+        let mut columns = [a as u64, b as u64];
+        self.random.shuffle(&mut columns);
+        let lost = self.some_lost(Base::Empty, 0, 0);
+        self.push_lost(Call { columns, ..self.good_call(RebuildColumns, shape) }, fill, lost);
+    }
+
+    /// Each cell of each code and prime in turn is the only one lost: of an encoded
+    /// stripe, and of one in which a bit is wrong, mostly in a survivor.
+    fn every_lost_cell(&mut self) {
+        for (code, p) in codes() {
+            for n in 0..self.layout(code, p).cells() {
+                for fill in [Fill::Encoded, Fill::BitDamaged] {
+                    let shape = Shape { code, p, cell: self.some_cell(p) };
+                    self.lost_cells(shape, fill, Base::Cell(n), 0, 0);
+                    self.junk();
+                }
+            }
+        }
+    }
+
+    /// Every column and every two columns of each code and prime: as columns and as a
+    /// list of cells; with a cell more, which is 11; less a cell; and less a cell but
+    /// with another in its place.
+    fn every_two_columns(&mut self) {
+        for (code, p) in codes() {
+            let columns = self.layout(code, p).columns;
+            for (a, b) in (0..columns).flat_map(|b| (0..=b).map(move |a| (a, b))) {
+                let shape = Shape { code, p, cell: self.some_cell(p) };
+                let (base, fill) = (Base::Columns(a, b), self.random.one_of(&FILLS));
+                self.lost_columns(shape, Fill::Encoded, a, b);
+                self.junk();
+                self.lost_cells(shape, Fill::Encoded, base, 0, 0);
+                self.junk();
+                self.lost_columns(shape, fill, a, b);
+                self.lost_cells(shape, fill, base, 0, 1);
+                self.lost_cells(shape, fill, base, 1, 0);
+                self.lost_cells(shape, fill, base, 1, 1);
+            }
+        }
+    }
+
+    /// Random sets of every size, from none to all.
+    fn every_size(&mut self) {
+        for (code, p) in codes() {
+            for size in 0..=self.layout(code, p).cells() {
+                let shape = Shape { code, p, cell: self.random.one_of(&[1, 1, 2, 3]) };
+                let fill = self.random.one_of(&FILLS);
+                self.lost_cells(shape, fill, Base::Empty, 0, size);
+            }
+        }
+    }
+
+    /// Sets that are just determined and sets that just aren't: random ones up to a
+    /// few cells more than there are equations, largest determined sets less some
+    /// cells, and those with one or two others in their place.
+    fn on_the_edge(&mut self) {
+        for (code, p) in codes() {
+            let equations = self.layout(code, p).equations.len();
+            for k in 0..=equations + 2 {
+                for fill in [Fill::Encoded, Fill::BitDamaged, Fill::SeveralDamaged] {
+                    let shape = Shape { code, p, cell: self.some_cell(p) };
+                    self.lost_cells(shape, fill, Base::Empty, 0, k);
+                    self.lost_cells(shape, fill, Base::Determined, k, 0);
+                    self.lost_cells(shape, fill, Base::Determined, k, 1);
+                    self.lost_cells(shape, fill, Base::Determined, k, 2);
+                }
+            }
+        }
+    }
+
+    /// The listed cell sizes: for the smallest primes with all fills in all places, for
+    /// the others the small sizes only, in one place; for the largest prime some fills
+    /// of the large sizes too.
+    fn rebuild_shapes(&mut self) {
+        for (code, p) in codes() {
+            for cell in SMALL_CELLS {
+                self.rebuild_fills(Shape { code, p, cell }, &FILLS);
+            }
+            for cell in LARGE_CELLS {
+                let shape = Shape { code, p, cell };
+                if p <= 7 {
+                    self.rebuild_fills(shape, &FILLS);
+                } else if p == 31 {
+                    self.rebuild_fills(shape, &[Fill::Encoded, Fill::LateDamaged, Fill::Random]);
+                }
+            }
+        }
+    }
+
+    fn rebuild_fills(&mut self, shape: Shape, fills: &[Fill]) {
+        let places = if shape.p <= 7 { 3 } else { 1 };
+        for &fill in fills {
+            for place in self.places().into_iter().take(places) {
+                let start = self.list.len();
+                self.some_rebuilds(shape, fill);
+                if places > 1 {
+                    self.list[start..].iter_mut().for_each(|case| case.stripe.place = place);
+                }
+            }
+        }
+    }
+
+    /// A rebuild of each kind: one column, two, no cell, a few cells, a part of a column
+    /// and another cell, a determined set, and one on the edge.
+    fn some_rebuilds(&mut self, shape: Shape, fill: Fill) {
+        let layout = self.layout(shape.code, shape.p);
+        let (columns, equations) = (layout.columns, layout.equations.len());
+        let [a, b] = [self.random.below(columns), self.random.below(columns)];
+        let (few, most) = (1 + self.random.below(4), self.random.below(equations));
+        self.lost_columns(shape, fill, a, a);
+        self.lost_columns(shape, fill, a, b);
+        self.lost_cells(shape, fill, Base::Empty, 0, 0);
+        self.lost_cells(shape, fill, Base::Empty, 0, few);
+        self.lost_cells(shape, fill, Base::Columns(a, a), few, 1);
+        self.lost_cells(shape, fill, Base::Determined, most, 0);
+        self.lost_cells(shape, fill, Base::Determined, 1, 1);
+    }
+
+    /// Lists many times as long as the stripe has cells.
+    fn long_lists(&mut self) {
+        for (code, p) in codes().filter(|(_, p)| [3, 31].contains(p)) {
+            let shape = Shape { code, p, cell: 3 };
+            for (base, more) in [(Base::Columns(0, 1), 0), (Base::Columns(0, 2), 1), (Base::Cell(5), 0)] {
+                let lost = Lost { form: Form::Huge, ..self.some_lost(base, 0, more) };
+                for odd in [Odd::Nothing, Odd::Number(p * p)] {
+                    let lost = Lost { odd, ..lost };
+                    self.push_lost(self.good_call(RebuildCells, shape), Fill::Encoded, lost);
+                }
+            }
+        }
+    }
+
+    /// Cell numbers and columns one past and far past the last, and those that are good
+    /// ones when cut short, or whose place in the stripe is, counted modulo 2^64.
+    fn numbers_outside(&mut self) {
+        for (code, p) in codes() {
+            let (cells, columns) = (self.layout(code, p).cells(), self.layout(code, p).columns);
+            let shape = Shape { code, p, cell: self.random.one_of(&[1, 64]) };
+            let (n, column) = (self.random.below(cells), self.random.below(columns));
+            for outside in outside(n as u64, cells as u64) {
+                for (base, more) in [(Base::Empty, 0), (Base::Cell(n), 0), (Base::Columns(0, column), 1)] {
+                    let lost = Lost { odd: Odd::Number(outside), ..self.some_lost(base, 0, more) };
+                    self.push_lost(self.good_call(RebuildCells, shape), Fill::Encoded, lost);
+                }
+            }
+            for outside in outside(column as u64, columns as u64) {
+                for columns in [[outside, column as u64], [column as u64, outside], [outside; 2]] {
+                    let call = Call { columns, ..self.good_call(RebuildColumns, shape) };
+                    self.push_lost(call, Fill::Encoded, Lost::NONE);
+                }
+            }
+        }
+    }
+
+    /// Every parameter good, at 0, one past its range and at its most, in all
+    /// combinations, with stripes one byte short and long, and lists that are empty (NULL
+    /// too), good, or name a cell outside: the lowest refusal number must come.
+    fn bad_rebuilds(&mut self) {
+        edge_shapes().for_each(|shape| self.bad_lengths(shape));
+    }
+
+    fn bad_lengths(&mut self, shape: Shape) {
+        let good = self.mended(shape);
+        let layout = self.second.layout(good.code, good.p).expect("a good shape");
+        let (cells, columns) = (layout.cells() as u64, layout.columns as u64);
+        let right = cells * if shape.cell == 4097 { 4097 } else { good.cell };
+        for length in [0, right - 1, right, right + 1, u64::MAX] {
+            self.bad_lists(Call::new(RebuildCells, shape, length), cells);
+            for a in [0, columns - 1, columns, u64::MAX] {
+                for b in [0, columns - 1, columns, u64::MAX] {
+                    let call = Call { columns: [a, b], ..Call::new(RebuildColumns, shape, length) };
+                    self.push_lost(call, Fill::Random, Lost::NONE);
+                }
+            }
+            self.push_lost(Call::new(BadColumn, shape, length), Fill::Random, Lost::NONE);
+        }
+    }
+
+    fn bad_lists(&mut self, call: Call, cells: u64) {
+        let (none, some) = (Lost::NONE, self.some_lost(Base::Empty, 0, 3));
+        for odd in
+            [Odd::Nothing, Odd::Number(0), Odd::Number(cells - 1), Odd::Number(cells), Odd::Number(u64::MAX)]
+        {
+            self.push_lost(call, Fill::Random, Lost { odd, ..none });
+            self.push_lost(call, Fill::Random, Lost { odd, ..some });
+        }
+        if self.second.refusal(&call, &[]) != 0 {
+            self.push_lost(call, Fill::Random, Lost { odd: Odd::Absent, ..some });
+        }
+    }
+
+    fn rebuild_any_p(&mut self) {
+        for (shape, length) in any_p() {
+            for operation in [RebuildCells, RebuildColumns, BadColumn] {
+                let call = Call { columns: [0, 1], ..Call::new(operation, shape, length) };
+                self.push_lost(call, Fill::Random, Lost { base: Base::Cell(0), ..Lost::NONE });
+            }
+        }
+    }
+
+    /// Columns and cells, most sets not far from being determined.
+    pub fn random_rebuild(&mut self) {
+        let shape = self.random_shape();
+        let fill = self.random.one_of(&FILLS);
+        let layout = self.layout(shape.code, shape.p);
+        let (columns, equations) = (layout.columns, layout.equations.len());
+        let [a, b] = [self.random.below(columns), self.random.below(columns)];
+        let [less, more] = [self.random.below(6), self.random.below(3)];
+        match self.random.below(8) {
+            0 => self.lost_columns(shape, fill, a, a),
+            1 => self.lost_columns(shape, fill, a, b),
+            2 => self.lost_cells(shape, fill, Base::Columns(a, a), less, more),
+            3 => self.lost_cells(shape, fill, Base::Columns(a, b), less, more),
+            4 => self.lost_cells(shape, fill, Base::Determined, less, more),
+            5 => {
+                let less = self.random.below(equations);
+                self.lost_cells(shape, fill, Base::Determined, less, more);
+            }
+            6 => self.lost_cells(shape, fill, Base::Empty, 0, less + more),
+            _ => {
+                let size = self.random.below(equations + 3);
+                self.lost_cells(shape, fill, Base::Empty, 0, size);
+            }
+        }
+    }
+}
+
+/// Numbers past the end, most of them made of a good one. A good one and 256 may still
+/// be inside.
+fn outside(good: u64, end: u64) -> Vec<u64> {
+    let far = [8, 16, 32, 52, 55, 58, 60, 61, 62, 63].map(|bits| good + (1 << bits));
+    [end, end + 1, u64::MAX - 1, u64::MAX].into_iter().chain(far).collect()
+}

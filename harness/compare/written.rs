@@ -1,0 +1,155 @@
+//! The scope document's stripes to try, with the answers that it gives.
+
+use crate::second::{Answer, Call, Operation, Shape, CLEAN, COLUMN, UNEXPLAINED};
+use Operation::{BadColumn, Broken, Encode, RebuildCells, RebuildColumns, Write};
+
+pub struct Written {
+    pub call: Call,
+    pub before: &'static [u8],
+    pub bytes: &'static [u8],
+    pub lost: &'static [u64],
+    pub answer: Answer,
+    pub after: &'static [u8],
+}
+
+const P1: [u8; 8] = [0x01, 0x04, 0x02, 0x08, 0x03, 0x0C, 0x0D, 0x06];
+const P1_JUNK: [u8; 8] = [0x01, 0x04, 0x02, 0x08, 0xEE, 0xEE, 0xEE, 0xEE];
+const P2: [u8; 8] = [0x01, 0x02, 0x0A, 0x04, 0x08, 0x05, 0x09, 0x06];
+const P2_JUNK: [u8; 8] = [0x01, 0x02, 0xEE, 0x04, 0x08, 0xEE, 0xEE, 0xEE];
+const P3: [u8; 9] = [0x01, 0x04, 0x02, 0x02, 0x01, 0x04, 0x04, 0x02, 0x01];
+const P3_JUNK: [u8; 9] = [0x01, 0xEE, 0xEE, 0x02, 0xEE, 0xEE, 0x04, 0xEE, 0xEE];
+const P4: [u8; 8] = [0x05, 0x04, 0x02, 0x08, 0x07, 0x0C, 0x09, 0x06];
+const P5: [u8; 8] = [0x01, 0x00, 0x02, 0x08, 0x03, 0x08, 0x09, 0x02];
+const P9: [u8; 8] = [0x00, 0x04, 0x03, 0x08, 0x03, 0x0C, 0x0D, 0x06];
+const P10: [u8; 8] = [0x00, 0x04, 0x02, 0x0A, 0x03, 0x0C, 0x0D, 0x06];
+const JOB: [u8; 8] = [0xEE, 0xEE, 0x02, 0x08, 0x03, 0x0C, 0x0D, 0x06];
+
+/// An encoded stripe of RDP for p = 5, and what P6 and P7 lose of it: (1,1), (1,4),
+/// (2,5), (0,5); (0,0), (0,4), (0,5); (0,0), (0,4), (1,5).
+const RDP_5: [u8; 24] = [
+    0x01, 0x02, 0x04, 0x08, 0x10, 0x20, 0x40, 0x80, 0x03, 0x06, 0x0C, 0x18, 0x30, 0x60, 0xC0, 0x81, 0x22,
+    0x44, 0x88, 0x11, 0x9D, 0x1B, 0x36, 0x7E,
+];
+const P6_LOST: [u64; 4] = [5, 17, 22, 20];
+const P7_LOST: [u64; 3] = [0, 16, 20];
+const P7_DETERMINED: [u64; 3] = [0, 16, 21];
+const P7_JUNK: [u8; 24] = {
+    let mut stripe = RDP_5;
+    stripe[0] = 0xEE;
+    stripe[16] = 0xEE;
+    stripe[21] = 0xEE;
+    stripe
+};
+
+pub static WRITTEN: &[Written] = &[
+    encoded(1, &P1_JUNK, &P1),
+    encoded(2, &P2_JUNK, &P2),
+    encoded(3, &P3_JUNK, &P3),
+    encoded(1, &P1, &P1),
+    encoded(2, &P2, &P2),
+    encoded(3, &P3, &P3),
+    counted(1, &P1, 0),
+    counted(2, &P2, 0),
+    counted(3, &P3, 0),
+    counted(1, &P10, 3),
+    changed((0, 0), &[0x05], &P4, 2),
+    changed((1, 0), &[0x00], &P5, 3),
+    changed((1, 0), &[0x04], &P1, 3),
+    lost_of(1, 5, &RDP_5, &P6_LOST, 11, &RDP_5),
+    lost_of(1, 5, &RDP_5, &P7_LOST, 11, &RDP_5),
+    lost_of(1, 5, &P7_JUNK, &P7_DETERMINED, 0, &RDP_5),
+    found(1, &P9, COLUMN, 3),
+    found(1, &P10, UNEXPLAINED, 0),
+    found(1, &P1, CLEAN, 0),
+    found(2, &P2, CLEAN, 0),
+    found(3, &P3, CLEAN, 0),
+    // Two whole columns and one more cell; all cells.
+    lost_of(1, 3, &P1, &[0, 1, 2, 3, 4], 11, &P1),
+    lost_of(2, 3, &P2, &[0, 1, 4, 5, 7], 11, &P2),
+    lost_of(3, 3, &P3, &[3, 4, 5, 6, 7, 8, 1], 11, &P3),
+    lost_of(1, 3, &P1, &[0, 1, 2, 3, 4, 5, 6, 7], 11, &P1),
+    lost_of(2, 3, &P2, &[0, 1, 2, 3, 4, 5, 6, 7], 11, &P2),
+    lost_of(3, 3, &P3, &[0, 1, 2, 3, 4, 5, 6, 7, 8], 11, &P3),
+    // The job's stripe and lost cells; column 0 is the same; the empty list.
+    lost_of(1, 3, &JOB, &[0, 1], 0, &P1),
+    columns_of(&JOB, [0, 0], 0, &P1),
+    columns_of(&JOB, [3, 0], 0, &P1),
+    lost_of(1, 3, &P1, &[], 0, &P1),
+    lost_of(1, 3, &P10, &[], 12, &P10),
+    refused(Encode, 9, 1, 2),
+    refused(Encode, 2, 1, 2),
+    refused(Encode, 33, 1, 2),
+    refused(Encode, 3, 0, 4),
+    refused(Encode, 3, 4097, 4),
+    refused(Broken, 9, 1, 2),
+    refused(Broken, 3, 4097, 4),
+    refused(Write, 33, 1, 2),
+    refused(Write, 3, 0, 4),
+    refused(RebuildCells, 9, 1, 2),
+    refused(RebuildCells, 2, 1, 2),
+    refused(RebuildCells, 33, 1, 2),
+    refused(RebuildCells, 3, 0, 4),
+    refused(RebuildCells, 3, 4097, 4),
+    refused(RebuildColumns, 9, 1, 2),
+    refused(RebuildColumns, 2, 1, 2),
+    refused(RebuildColumns, 33, 1, 2),
+    refused(RebuildColumns, 3, 0, 4),
+    refused(RebuildColumns, 3, 4097, 4),
+    refused(BadColumn, 9, 1, 2),
+    refused(BadColumn, 2, 1, 2),
+    refused(BadColumn, 33, 1, 2),
+    refused(BadColumn, 3, 0, 4),
+    refused(BadColumn, 3, 4097, 4),
+];
+
+/// A call with cells of one byte that leaves the stripe as it is.
+const fn still(operation: Operation, code: u64, p: u64, stripe: &'static [u8], answer: Answer) -> Written {
+    let call = Call::new(operation, Shape { code, p, cell: 1 }, stripe.len() as u64);
+    Written { call, before: stripe, bytes: &[], lost: &[], answer, after: stripe }
+}
+
+const fn encoded(code: u64, before: &'static [u8], after: &'static [u8]) -> Written {
+    Written { after, ..still(Encode, code, 3, before, Answer::refused(0)) }
+}
+
+const fn counted(code: u64, stripe: &'static [u8], count: u64) -> Written {
+    still(Broken, code, 3, stripe, Answer::counted(count))
+}
+
+const fn found(code: u64, stripe: &'static [u8], finding: u64, column: u64) -> Written {
+    still(BadColumn, code, 3, stripe, Answer::found(finding, column))
+}
+
+const fn refused(operation: Operation, p: u64, cell: u64, refusal: u64) -> Written {
+    let written = still(operation, 1, 3, &P1, Answer::refused(refusal));
+    Written { call: Call { shape: Shape { code: 1, p, cell }, ..written.call }, ..written }
+}
+
+/// A small write into P1.
+const fn changed(
+    (row, column): (u64, u64),
+    bytes: &'static [u8],
+    after: &'static [u8],
+    count: u64,
+) -> Written {
+    let written = still(Write, 1, 3, &P1, Answer::counted(count));
+    let call = Call { row, column, bytes_length: bytes.len() as u64, ..written.call };
+    Written { call, bytes, after, ..written }
+}
+
+const fn lost_of(
+    code: u64,
+    p: u64,
+    before: &'static [u8],
+    lost: &'static [u64],
+    refusal: u64,
+    after: &'static [u8],
+) -> Written {
+    Written { lost, after, ..still(RebuildCells, code, p, before, Answer::refused(refusal)) }
+}
+
+/// A rebuild of columns of RDP for p = 3.
+const fn columns_of(before: &'static [u8], columns: [u64; 2], refusal: u64, after: &'static [u8]) -> Written {
+    let written = still(RebuildColumns, 1, 3, before, Answer::refused(refusal));
+    Written { call: Call { columns, ..written.call }, after, ..written }
+}
