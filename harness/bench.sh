@@ -1,25 +1,33 @@
 #!/bin/sh
-# Measures encode, broken and write beside the same algorithm in C, ISA-L, Jerasure and
-# memcpy, prints a table of each measure and holds the figures to the bars. It is a
+# Measures the library's calls beside the same algorithm in C, ISA-L, Jerasure, snapraid
+# and memcpy, prints tables of each measure and holds the figures to the bars. It is a
 # report and no gate: it fails only where something can't be built, or where the
 # bytes are wrong, since nothing wrong is measured.
 #
-#   harness/bench.sh [--quick] [--lib FILE]
+#   harness/bench.sh [--quick] [--counts] [--only CALLS] [--lib FILE]
 #
-#   --quick     p = 5 and 17, for write 5 and 31; cells of 512 and 4,096 bytes
-#   --lib FILE  measures FILE in place of what `rt staticlib zijraduf` makes
+#   --quick       p = 5, 17 and 31; cells of 512 and 4,096 bytes
+#   --counts      instructions only, no times
+#   --only CALLS  some calls: encode, broken, write, two-columns, one-column, four-cells,
+#                 clean, bad-column, deciding; rebuild is all from two-columns on, with
+#                 encode and broken for their bars
+#   --lib FILE    measures FILE in place of what `rt staticlib zijraduf` makes
 #
 # x86-64: instructions by perf or valgrind, and GB/s. Arm: instructions, by the kit's
 # emulator; its times would say nothing.
 set -eu
 
 primes='5 7 17 31'
-write_primes=$primes
 cells='512 1000 4096'
+rebuild='two-columns one-column four-cells clean bad-column deciding'
+only="encode broken write $rebuild"
 lib=
+times=yes
 while [ $# -gt 0 ]; do
     case $1 in
-    --quick) primes='5 17' write_primes='5 31' cells='512 4096' ;;
+    --quick) primes='5 17 31' cells='512 4096' ;;
+    --counts) times= ;;
+    --only) only=$(echo "${2:?--only wants calls}" | sed "s/rebuild/encode broken $rebuild/") && shift ;;
     --lib) lib=$(realpath "${2:?--lib wants a file}") && shift ;;
     *) sed -n '2,/^set/s/^# \{0,1\}//p' "$0" >&2 && exit 2 ;;
     esac
@@ -30,41 +38,79 @@ ROOT=$(cd "$(dirname "$0")/.." && pwd)
 cd "$ROOT"
 . harness/kit.sh
 BUILD=$ROOT/target/bench
-apt=$BUILD/apt
 peers=$BUILD/peers
+snapraid=$BUILD/snapraid
 figures=$BUILD/figures
 mkdir -p "$BUILD"
+[ -z "$EMULATOR" ] || times=
 
 say() { echo "bench: $*" >&2; }
 
-# The peers, unpacked below target/ for amd64 whatever this machine is: apt with lists
-# of its own installs nothing and wants no rights.
-fetch_peers() {
-    [ ! -e "$peers/done" ] || return 0
+# ---- the peers, below target/ ----
+
+# apt_in FOLDER: makes apt work with lists of its own there. It installs nothing and wants
+# no rights.
+apt_in() {
     command -v apt-get >/dev/null && command -v dpkg-deb >/dev/null || { echo 'no apt-get here'; return 1; }
-    rm -rf "$apt" "$peers"
-    mkdir -p "$apt/state/lists/partial" "$apt/cache/archives/partial" "$peers"
-    : >"$apt/status"
-    cat >"$apt/conf" <<END
+    rm -rf "$1"
+    mkdir -p "$1/state/lists/partial" "$1/cache/archives/partial" "$1/parts"
+    : >"$1/status"
+    cat >"$1/conf" <<END
 APT::Architecture "amd64";
 APT::Architectures { "amd64"; };
 APT::Sandbox::User "root";
-Dir::State "$apt/state";
-Dir::State::status "$apt/status";
-Dir::Cache "$apt/cache";
+Dir::State "$1/state";
+Dir::State::status "$1/status";
+Dir::Cache "$1/cache";
 Acquire::Languages "none";
 Acquire::Retries "2";
 Acquire::http::Timeout "30";
 END
-    export APT_CONFIG="$apt/conf"
-    apt-get -q update >"$apt/log" 2>&1 &&
-        (cd "$peers" && apt-get -q download libisal2 libjerasure2 libgf-complete1) >>"$apt/log" 2>&1 ||
-        { grep '^[EW]:' "$apt/log" | tail -n 1; return 1; }
+    export APT_CONFIG="$1/conf"
+}
+
+# apt_get FOLDER WHAT..: updates the lists and has apt-get do it. Says why it could not.
+apt_get() {
+    apt_log=$1/log
+    shift
+    if { apt-get -q update && apt-get -q "$@"; } >"$apt_log" 2>&1; then return 0; fi
+    grep -m 1 'Failed to fetch' "$apt_log" || grep '^[EW]:' "$apt_log" | tail -n 1
+    return 1
+}
+
+# Unpacked for amd64, whatever this machine is.
+fetch_peers() {
+    [ ! -e "$peers/done" ] || return 0
+    rm -rf "$peers"
+    mkdir -p "$peers"
+    apt_in "$BUILD/apt" || return 1
+    (cd "$peers" && apt_get "$BUILD/apt" download libisal2 libjerasure2 libgf-complete1) || return 1
     for deb in "$peers"/*.deb; do
         dpkg-deb -x "$deb" "$peers" || return 1
         dpkg-deb -f "$deb" Package Version | sed 's/^[^:]*: //' | paste -s -d ' ' >>"$peers/versions"
     done
     touch "$peers/done"
+}
+
+# No package has snapraid's library of parities: it is built from Debian's source.
+fetch_snapraid() {
+    [ ! -e "$snapraid/done" ] || return 0
+    [ -z "$EMULATOR" ] && command -v cc >/dev/null || { echo 'no C compiler with headers for x86-64 here'; return 1; }
+    rm -rf "$snapraid"
+    mkdir -p "$snapraid"
+    apt_in "$BUILD/apt-source" || return 1
+    echo "deb-src http://deb.debian.org/debian $(sed -n 's/^VERSION_CODENAME=//p' /etc/os-release) main" \
+        >"$BUILD/apt-source/sources.list"
+    cat >>"$APT_CONFIG" <<END
+Dir::Etc::sourcelist "$BUILD/apt-source/sources.list";
+Dir::Etc::sourceparts "$BUILD/apt-source/parts";
+END
+    (cd "$snapraid" && apt_get "$BUILD/apt-source" source --download-only snapraid) || return 1
+    tar -xf "$snapraid"/*.orig.tar.* -C "$snapraid" --strip-components=1 || return 1
+    (cd "$snapraid/raid" && cc -O2 -w -fPIC -shared -Wl,-z,defs -o ../libsnapraid.so \
+        check.c raid.c tables.c module.c int.c intz.c x86.c x86z.c helper.c memory.c) 2>"$snapraid/log" ||
+        { echo 'its raid library does not compile'; return 1; }
+    sed -n 's/^Version: /snapraid /p' "$snapraid"/*.dsc | head -n 1 >"$snapraid/done"
 }
 
 build() {
@@ -74,18 +120,20 @@ build() {
     fi
     # -fhosted: the library's loops too may become memset and memcpy.
     kit_cc harness/bench/same.c "$BUILD/same.o" -fhosted -Iinclude
-    kit_cc harness/bench/driver.c "$BUILD/driver.o" -Iinclude -Wall -Wextra
-    kit_link "$BUILD/driver" "$BUILD/driver.o" "$BUILD/same.o" "$lib"
+    for part in calls check driver; do
+        kit_cc harness/bench/$part.c "$BUILD/$part.o" -Iinclude -Wall -Wextra
+    done
+    kit_link "$BUILD/driver" "$BUILD/driver.o" "$BUILD/calls.o" "$BUILD/check.o" "$BUILD/same.o" "$lib"
 }
 
 # The driver, with the peers where it looks for them.
-path=$TOOLS/lib:$peers/usr/lib/x86_64-linux-gnu
+path=$TOOLS/lib:$peers/usr/lib/x86_64-linux-gnu:$snapraid
 driver() { ${EMULATOR:+"$EMULATOR"} "$LOADER" --library-path "$path" "$BUILD/driver" "$@"; }
 
-# ---- instructions: 'CALL WHO COUNT' for each call of a shape ----
+# ---- instructions: 'CALL WHO COUNT' for some calls of a shape ----
 
 # Copies are made by vectors: `rep movsb` is a single instruction, run once a byte.
-count_emulator() {
+by_emulator() {
     "$EMULATOR" -cpu max,erms=off,fsrm=off -singlestep -d exec,nochain -D /dev/stdout \
         "$LOADER" --library-path "$path" "$BUILD/driver" count "$@" |
         awk '/^Trace/ { n++; next }
@@ -94,39 +142,44 @@ count_emulator() {
              /^end/ { print call, who, n - none }'
 }
 
-by_perf() {
+# Valgrind counts a `rep` once a byte too.
+by_callgrind() {
+    rm -f "$BUILD"/callgrind*
+    GLIBC_TUNABLES=glibc.cpu.hwcaps=-ERMS valgrind --tool=callgrind --callgrind-out-file="$BUILD/callgrind" \
+        "$LOADER" --library-path "$path" "$BUILD/driver" count "$@" >"$BUILD/callgrind-log" 2>&1 || return 1
+    cat "$BUILD"/callgrind.[0-9]* |
+        awk '/Client Request: begin/ { call = $(NF - 1) " " $NF }
+             /^summary:/ { n[call] = $2 }
+             END { for (call in n) if (call != "- nothing") print call, n[call] - n["- nothing"] }'
+}
+
+perf_calls() {
     perf stat -x, -e instructions:u -o "$BUILD/perf" \
         "$LOADER" --library-path "$path" "$BUILD/driver" calls "$@" &&
         awk -F, '/instructions/ { n += $1 } END { printf "%.0f\n", n }' "$BUILD/perf"
 }
 
-by_callgrind() {
-    valgrind --tool=callgrind --callgrind-out-file=/dev/null \
-        "$LOADER" --library-path "$path" "$BUILD/driver" calls "$@" 2>"$BUILD/callgrind" &&
-        awk '/Collected :/ { n = $4 } END { printf "%.0f\n", n }' "$BUILD/callgrind"
-}
-
-# What $more calls add to the count of one.
-count_by() {
+# What 256 calls add to the count of one.
+by_perf() {
     while read -r call who bytes; do
-        one=$("$1" "$2" "$3" "$4" "$call" "$who" 1)
-        all=$("$1" "$2" "$3" "$4" "$call" "$who" $((1 + more)))
-        echo "$call $who $(((all - one) / more))"
+        one=$(perf_calls "$1" "$2" "$3" "$call" "$who" 1)
+        all=$(perf_calls "$1" "$2" "$3" "$call" "$who" 257)
+        echo "$call $who $(((all - one) / 256))"
     done <"$BUILD/list"
 }
 
 pick_counter() {
     if [ -n "$EMULATOR" ]; then
-        counter=emulator
+        counter=by_emulator
         how="all that the kit's emulator runs in one call, exact"
-    elif [ "$(by_perf 1 5 512 encode ours 1 2>/dev/null || echo 0)" -gt 0 ]; then
-        counter=by_perf more=256
+    elif [ "$(perf_calls 1 5 512 encode ours 1 2>/dev/null || echo 0)" -gt 0 ]; then
+        counter=by_perf
         how='perf stat -e instructions:u, 257 calls less 1 call, a 256th'
-    elif [ "$(by_callgrind 1 5 512 encode ours 1 2>/dev/null || echo 0)" -gt 0 ]; then
-        counter=by_callgrind more=1
-        how='valgrind --tool=callgrind, 2 calls less 1 call, exact'
+    elif [ -n "$(by_callgrind 1 5 512 encode 2>/dev/null)" ]; then
+        counter=by_callgrind
+        how='valgrind --tool=callgrind, one call less a call of nothing; AVX2 at most, memcpy and memset without rep; where the stack lies makes up to 0.5 % of difference'
     else
-        counter=none
+        counter=
         how='not counted: neither perf nor valgrind works here'
     fi
 }
@@ -138,46 +191,43 @@ measure() {
     shape="$1 $2 $3"
     shift 3
     say "code, p and cell $shape: $*"
-    # A shape and a call hold plain words only: left unquoted to be split.
-    driver check $shape $1 >"$BUILD/list"
-    awk -v s="$shape" '{ print "bytes", s, $1, $2, $3 }' "$BUILD/list"
-    case $counter in
-    none) ;;
-    emulator) count_emulator $shape $1 ;;
-    *) count_by $counter $shape ;;
-    esac | awk -v s="$shape" '{ print "instructions", s, $1, $2, $3 }'
-    [ -z "$EMULATOR" ] || return 0
-    for call in "$@"; do
-        driver time $shape $call "$cold" |
-            awk -v s="$shape $call" '{ print "warm", s, $1, $2; print "cold", s, $1, $3 }'
-    done
+    # A shape holds plain words only: left unquoted to be split.
+    driver check $shape "$@" >"$BUILD/list"
+    awk -v s="$shape" '{ print "bytes", s, $0 }' "$BUILD/list"
+    if [ -n "$counter" ]; then
+        $counter $shape "$@" >"$BUILD/counts"
+        awk -v s="$shape" '{ print "instructions", s, $0 }' "$BUILD/counts"
+    fi
+    [ -n "$times" ] && [ "$1" != deciding ] || return 0
+    driver time $shape "$others" "$@" >"$BUILD/times"
+    awk -v s="$shape" '{ print "warm", s, $1, $2, $3; print "cold", s, $1, $2, $4 }' "$BUILD/times"
 }
 
-# Every shape of the primes given, for some calls.
 measure_all() {
-    all_primes=$1
-    shift
     for code in 1 2 3; do
-        for p in $all_primes; do
+        for p in $primes; do
             for cell in $cells; do
-                measure $code "$p" "$cell" "$@" >"$BUILD/shape"
-                cat "$BUILD/shape" >>"$figures"
+                [ -z "$of_all" ] || measure $code "$p" "$cell" $of_all >>"$figures"
             done
         done
+        case $only in
+        *deciding*) measure $code 31 1 deciding >>"$figures" ;;
+        esac
     done
 }
 
-# Cold: eight times the last cache, 512 MiB at least, half of the free memory at most.
-cold_bytes() {
+# What has to be read to push all else out of the caches: three times the last one, 64 MiB
+# at least, half of the free memory at most.
+other_bytes() {
     last=$(getconf LEVEL3_CACHE_SIZE 2>/dev/null || echo 0)
     awk -v last="${last:-0}" '/^MemAvailable:/ {
-        n = 8 * last; if (n < 2 ^ 29) n = 2 ^ 29
+        n = 3 * last; if (n < 2 ^ 26) n = 2 ^ 26
         if (n > $2 * 512) n = $2 * 512
         printf "%d\n", n }' /proc/meminfo
 }
 
 header() {
-    echo '# Encode, broken and write'
+    echo "# The library's calls, measured"
     echo
     if [ -n "$EMULATOR" ]; then
         echo "- Machine: $(uname -m); x86-64 programs run under the kit's emulator, so there are no times."
@@ -188,29 +238,40 @@ header() {
         for flag in avx avx2 avx512f; do
             if grep -q "^flags.* $flag " /proc/cpuinfo; then level=$(echo $flag | tr a-z A-Z); fi
         done
-        echo "- GB/s of data: best of seven. Warm: one stripe again and again. Cold: stripes in turn, $((cold >> 20)) MiB of them."
     fi
+    [ -z "$times" ] || echo "- GB/s of data. Warm: one stripe again and again, best of seven. Cold: 64 MiB of stripes in turn," \
+        "after $((others >> 20)) MiB of other memory were read, best of three."
     echo "- Instruction set: x86-64 with SSE2 for ours and for the same algorithm in C ($("$TOOLS/bin/clang" --version | head -n 1)," \
         "-O3 -march=x86-64); SSE4.1 for ISA-L SSE; $level is the most that ISA-L and memcpy could pick."
     echo "- Instructions of a call: $how."
     echo "- ISA-L: pq_gen beside encode, pq_check beside broken, with as many sources as the code has data columns."
     echo "  Beside write ec_encode_data_update: the difference of old and new, ready made, into two parities of p - 1 sources."
-    echo "  Jerasure: RDP's bit matrix, a smart schedule; its bytes are ours."
+    echo "  Beside lost columns ec_encode_data: one by P, two by P and Q, with the tables of the inverse ready made; nothing is checked."
+    echo "- Jerasure: RDP's bit matrix, smart schedules; its bytes are ours. Lost columns by jerasure_schedule_decode_cache with the"
+    echo "  schedule ready made; lazy is jerasure_schedule_decode_lazy, which makes it in the call. Nothing is checked."
+    [ -z "$EMULATOR" ] || echo "  Above p = 17 its decoding is not counted: the emulator takes too long."
+    echo "- snapraid: raid_scan beside bad column, a byte at a time by tables, on as many data blocks as the code has data columns and two"
+    echo "  parities, with a middle block bad."
     echo "- Write: a data cell in the middle, with three dependent parity cells for RDP and two for the others."
+    echo "- Two columns: 0 and 1; of the other pairs none takes 3 % more instructions. One column: 0. Four cells: in four columns and four rows."
+    echo "  Clean: no cell is lost, and the stripe is encoded. Bad column: the middle one, every byte of it bad."
     if [ -e "$peers/done" ]; then
-        echo "- Peers: $(paste -s -d , "$peers/versions" | sed 's/,/, /g')."
+        echo "- Peers: $(cat "$peers/versions" "$snapraid/done" 2>/dev/null | paste -s -d , | sed 's/,/, /g')."
     fi
     for who in isal jerasure; do
         grep -q " $who " "$figures" || echo "- Missing: $who: ${why:-it can not be opened}."
     done
+    grep -q ' snapraid ' "$figures" || echo "- Missing: snapraid: ${why_snapraid:-it can not be opened}."
 }
 
 build
 why=$(fetch_peers) || say "no peers: $why"
+why_snapraid=$(fetch_snapraid) || say "no snapraid: $why_snapraid"
 pick_counter
-cold=$(cold_bytes)
+others=$(other_bytes)
+of_all=$(echo "$only" | sed 's/deciding//')
+of_all=$(echo $of_all)
 driver stack | awk '{ print "stack 0 0 0", $1, "ours", $2 }' >"$figures"
-measure_all "$primes" encode broken
-measure_all "$write_primes" write
+measure_all
 header
 awk -f harness/bench/report.awk "$figures"

@@ -1,11 +1,11 @@
-# Reads figures, lines 'KIND CODE P CELL CALL WHO VALUE', and prints a table of each
+# Reads figures, lines 'KIND CODE P CELL CALL WHO VALUE', and prints tables of each
 # measure and a line for each bar.
 
 {
     row = $5 SUBSEP $2 SUBSEP $3 SUBSEP $4
     value[$1, row, $6] = $7
     if ($1 == "bytes" && $6 == "ours") rows[++count] = row
-    if ($1 == "bytes") there[$6] = 1
+    if ($1 == "bytes") there[$5, $6] = 1
     kinds[$1] = 1
 }
 
@@ -26,26 +26,54 @@ function entry(x, digits, wide) {
     return x == "" ? sprintf(" %" wide "s |", "-") : sprintf(" %" wide "." digits "f |", x)
 }
 
-function table(kind, title,    call, r, w, part, line, rule) {
-    if (!(kind in kinds)) return
-    printf "\n## %s\n\n", title
-    line = "| call   | code   |  p | cell |"; rule = "|--------|--------|---:|-----:|"
-    for (w = 1; w <= 6; w++) if (whos[w] in there) {
-        line = line sprintf(" %9s |", heads[w]); rule = rule "----------:|"
+# Those who have one of the calls, in columns[1..]. Gives how many.
+function columns_of(list,    calls, n, c, w, found) {
+    n = split(list, calls, " ")
+    split("", columns)
+    for (w = 1; w in whos; w++) for (c = 1; c <= n; c++) if ((calls[c], whos[w]) in there) {
+        columns[++found] = w
+        break
     }
-    for (w = 2; w <= 6; w++) if (whos[w] in there) {
-        line = line sprintf(" %11s |", "/ " heads[w]); rule = rule "------------:|"
-    }
+    return found
+}
+
+function table(kind, title, list,    calls, n, c, r, w, wide, part, line, rule) {
+    wide = columns_of(list)
+    if (!(kind in kinds) || wide == 0) return
+    printf "\n### %s\n\n", title
+    line = "| call        | code   |  p | cell |"; rule = "|-------------|--------|---:|-----:|"
+    for (w = 1; w <= wide; w++) { line = line sprintf(" %9s |", heads[columns[w]]); rule = rule "----------:|" }
+    for (w = 2; w <= wide; w++) { line = line sprintf(" %11s |", "/ " heads[columns[w]]); rule = rule "------------:|" }
     print line; print rule
-    for (call = 1; call <= 3; call++) for (r = 1; r <= count; r++) {
+    n = split(list, calls, " ")
+    for (c = 1; c <= n; c++) for (r = 1; r <= count; r++) {
         split(rows[r], part, SUBSEP)
-        if (part[1] != calls[call]) continue
-        line = sprintf("| %-6s | %-6s | %2d | %4d |", part[1], codes[part[2]], part[3], part[4])
-        for (w = 1; w <= 6; w++) if (whos[w] in there)
-            line = line entry(figure(kind, rows[r], whos[w]), kind == "instructions" ? 3 : 2, 9)
-        for (w = 2; w <= 6; w++) if (whos[w] in there)
-            line = line entry(ratio(kind, rows[r], whos[w]), 2, 11)
+        if (part[1] != calls[c]) continue
+        line = sprintf("| %-11s | %-6s | %2d | %4d |", part[1], codes[part[2]], part[3], part[4])
+        for (w = 1; w <= wide; w++)
+            line = line entry(figure(kind, rows[r], whos[columns[w]]), kind == "instructions" ? 3 : 2, 9)
+        for (w = 2; w <= wide; w++)
+            line = line entry(ratio(kind, rows[r], whos[columns[w]]), 2, 11)
         print line
+    }
+}
+
+function tables(kind, title) {
+    if (!(kind in kinds)) return
+    printf "\n## %s\n", title
+    table(kind, "Encode, broken, write", "encode broken write")
+    table(kind, "Rebuild and bad column", "two-columns one-column four-cells clean bad-column")
+}
+
+function deciding(    r, part, head) {
+    for (r = 1; r <= count; r++) if (rows[r] ~ /^deciding/ && figure("instructions", rows[r], "ours") != "") {
+        if (!head++) {
+            printf "\n## Deciding: all instructions of two lost columns with cells of one byte\n\n"
+            print "| code   |  p |      ours |         C |    / C |"; print "|--------|---:|----------:|----------:|-------:|"
+        }
+        split(rows[r], part, SUBSEP)
+        printf "| %-6s | %2d | %9d | %9d |%s\n", codes[part[2]], part[3], value["instructions", rows[r], "ours"], \
+            value["instructions", rows[r], "c"], entry(ratio("instructions", rows[r], "c"), 2, 6)
     }
 }
 
@@ -63,8 +91,8 @@ function take(x, row,    part) {
 
 function judge(name) {
     if (taken == 0) printf "- not measured: %s at most %s\n", name, limit
-    else printf "- %s: %s at most %s; the most is %.3f (%s)%s\n", over ? "MISSED" : "ok", name, limit, worst, where, \
-        over ? sprintf("; %d of %d over", over, taken) : ""
+    else printf "- %s: %s at most %s; the most is %s (%s)%s\n", over ? "MISSED" : "ok", name, limit, \
+        worst < 1000 ? sprintf("%.3f", worst) : worst, where, over ? sprintf("; %d of %d over", over, taken) : ""
     taken = over = 0
 }
 
@@ -75,45 +103,74 @@ function same_row(row, call, code, p,    part) {
 
 function by(a, b) { return a == "" || b == "" ? "" : a / b }
 
+# Whether a row is of a call, and of the shapes that bars are held in where `large` is set.
+function is_of(row, call, large,    part) {
+    split(row, part, SUBSEP)
+    return part[1] == call && (!large || ((part[3] == 17 || part[3] == 31) && (part[4] == 512 || part[4] == 4096)))
+}
+
+# A call of ours to another call of ours, and to the same in C.
+function bar_to_call(call, other, most, large,    r) {
+    limit = most
+    for (r = 1; r <= count; r++) if (is_of(rows[r], call, large))
+        take(by(figure(kind, rows[r], "ours"), figure(kind, same_row(rows[r], other, "", ""), "ours")), rows[r])
+    judge(call " / " other)
+}
+
+function bar_to_c(call, most, large,    r) {
+    limit = most
+    for (r = 1; r <= count; r++) if (is_of(rows[r], call, large)) take(ratio(kind, rows[r], "c"), rows[r])
+    judge(call " / the same algorithm in C")
+}
+
+function bar_of_row(row, name, most) {
+    limit = most
+    take(figure(kind, row, "ours"), row)
+    judge(name)
+}
+
+function bar_of_stack(call,    used) {
+    used = value["stack", call SUBSEP 0 SUBSEP 0 SUBSEP 0, "ours"]
+    printf "- %s: stack of %s at most 65536 bytes; the most is %d\n", (used > 65536 ? "MISSED" : "ok"), call, used
+}
+
 END {
-    split("ours c isal-sse isal jerasure memcpy", whos, " ")
-    split("ours,C,ISA-L SSE,ISA-L,Jerasure,memcpy", heads, ",")
+    split("ours c isal-sse isal jerasure lazy snapraid memcpy", whos, " ")
+    split("ours,C,ISA-L SSE,ISA-L,Jerasure,lazy,snapraid,memcpy", heads, ",")
     split("RDP,H-Code,X-Code", codes, ",")
-    split("encode broken write", calls, " ")
-    table("instructions", "Instructions per data byte, of write per byte of the cell, and ours as a multiple (less is better)")
-    table("warm", "GB/s of data, warm, and ours as a multiple (more is better)")
-    table("cold", "GB/s of data, cold, and ours as a multiple (more is better)")
+    tables("instructions", "Instructions per data byte, of write per byte of the cell, and ours as a multiple (less is better)")
+    deciding()
+    tables("warm", "GB/s of data, warm, and ours as a multiple (more is better)")
+    tables("cold", "GB/s of data, cold, and ours as a multiple (more is better)")
 
     printf "\n## Bars\n\n"
     kind = "instructions"
-    limit = 1.05
-    for (r = 1; r <= count; r++) if (rows[r] ~ /^encode/) take(ratio(kind, rows[r], "c"), rows[r])
-    judge("encode / the same algorithm in C")
-    limit = 0.45
-    row = "encode" SUBSEP 1 SUBSEP 17 SUBSEP 4096
-    take(figure(kind, row, "ours"), row)
-    judge("RDP encode at p = 17, cell 4096, instructions a byte")
-    limit = 0.65
-    row = "encode" SUBSEP 1 SUBSEP 5 SUBSEP 512
-    take(figure(kind, row, "ours"), row)
-    judge("RDP encode at p = 5, cell 512, instructions a byte")
+    bar_to_c("encode", 1.05, 0)
+    bar_of_row("encode" SUBSEP 1 SUBSEP 17 SUBSEP 4096, "RDP encode at p = 17, cell 4096, instructions a byte", 0.45)
+    bar_of_row("encode" SUBSEP 1 SUBSEP 5 SUBSEP 512, "RDP encode at p = 5, cell 512, instructions a byte", 0.65)
     limit = 1.25
-    for (r = 1; r <= count; r++) if (rows[r] ~ /^encode/ && rows[r] != same_row(rows[r], "", 1, ""))
+    for (r = 1; r <= count; r++) if (is_of(rows[r], "encode", 0) && rows[r] != same_row(rows[r], "", 1, ""))
         take(by(figure(kind, rows[r], "ours"), figure(kind, same_row(rows[r], "", 1, ""), "ours")), rows[r])
     judge("encode of H-Code and X-Code / of RDP")
-    limit = 1.15
-    for (r = 1; r <= count; r++) if (rows[r] ~ /^broken/)
-        take(by(figure(kind, rows[r], "ours"), figure(kind, same_row(rows[r], "encode", "", ""), "ours")), rows[r])
-    judge("broken / encode")
-    limit = 1.1
-    for (r = 1; r <= count; r++) if (rows[r] ~ /^write/) take(ratio(kind, rows[r], "c"), rows[r])
-    judge("write / the same steps in C")
+    bar_to_call("broken", "encode", 1.15, 0)
+    bar_to_c("write", 1.1, 0)
     limit = 1.3
-    for (r = 1; r <= count; r++) if (rows[r] ~ /^write/ && rows[r] == same_row(rows[r], "", "", 31))
+    for (r = 1; r <= count; r++) if (is_of(rows[r], "write", 0) && rows[r] == same_row(rows[r], "", "", 31))
         take(by(figure(kind, rows[r], "ours"), figure(kind, same_row(rows[r], "", "", 5), "ours")), rows[r])
     judge("write at p = 31 / at p = 5")
-    for (k = 1; k <= 3; k++) {
-        used = value["stack", calls[k] SUBSEP 0 SUBSEP 0 SUBSEP 0, "ours"]
-        printf "- %s: stack of %s at most 65536 bytes; the most is %d\n", (used > 65536 ? "MISSED" : "ok"), calls[k], used
-    }
+
+    printf "\nOf p = 17 and 31, cells of 512 and 4,096 bytes:\n\n"
+    bar_to_call("two-columns", "encode", 2.5, 1)
+    bar_to_call("four-cells", "encode", 2.2, 1)
+    bar_to_call("clean", "broken", 1.15, 1)
+    bar_to_call("bad-column", "broken", 3.5, 1)
+    n = split("two-columns one-column four-cells clean bad-column", list, " ")
+    for (k = 1; k <= n; k++) bar_to_c(list[k], 1.1, 1)
+    limit = 400000
+    for (r = 1; r <= count; r++) if (is_of(rows[r], "deciding", 0)) take(value[kind, rows[r], "ours"], rows[r])
+    judge("deciding, instructions")
+
+    printf "\n"
+    n = split("encode broken write two-columns one-column four-cells clean bad-column", list, " ")
+    for (k = 1; k <= n; k++) bar_of_stack(list[k])
 }

@@ -8,5 +8,9 @@ uint64_t same_encode(struct zijraduf_shape shape, uint8_t *stripe, size_t length
 struct zijraduf_count same_broken(struct zijraduf_shape shape, const uint8_t *stripe, size_t length);
 struct zijraduf_count same_write(struct zijraduf_shape shape, uint8_t *stripe, size_t length, uint64_t row,
                                  uint64_t column, const uint8_t *bytes, size_t bytes_length);
+uint64_t same_rebuild_cells(struct zijraduf_shape shape, uint8_t *stripe, size_t length, const uint64_t *lost,
+                            size_t count);
+uint64_t same_rebuild_columns(struct zijraduf_shape shape, uint8_t *stripe, size_t length, uint64_t a, uint64_t b);
+struct zijraduf_finding same_bad_column(struct zijraduf_shape shape, const uint8_t *stripe, size_t length);
 
 #endif
