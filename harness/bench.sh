@@ -240,7 +240,7 @@ header() {
         done
     fi
     [ -z "$times" ] || echo "- GB/s of data. Warm: one stripe again and again, best of seven. Cold: 64 MiB of stripes in turn," \
-        "after $((others >> 20)) MiB of other memory were read, best of three."
+        "after $((others >> 20)) MiB of other memory were read, best of five."
     echo "- Instruction set: x86-64 with SSE2 for ours and for the same algorithm in C ($("$TOOLS/bin/clang" --version | head -n 1)," \
         "-O3 -march=x86-64); SSE4.1 for ISA-L SSE; $level is the most that ISA-L and memcpy could pick."
     echo "- Instructions of a call: $how."

@@ -143,11 +143,11 @@ static void push_out(void)
     answer = sum;
 }
 
-/* Seconds a call on stripes in turn that are in no cache, best of three. */
+/* Seconds a call on stripes in turn that are in no cache, best of five. */
 static double cold(void (*call)(uint8_t *), uint8_t *m, size_t slot, size_t slots)
 {
     double least = 1e9;
-    for (int k = 0; k < 3; k++) {
+    for (int k = 0; k < 5; k++) {
         push_out();
         double start = now();
         for (size_t s = 0; s < slots; s++)
