@@ -44,7 +44,7 @@ pub record OnTwo (s : Shape) (v : ℕ → ℕ) (a b : ℕ) : Type 0 where
   pub apart : a ≢ b
   pub off : (c : ℕ) → c < cells s → c / rows s ≢ a → c / rows s ≢ b → v c ≡ 0
 
-pub entry-in : (s : Shape) (v : ℕ → ℕ) (j i : ℕ) → i < rows s → entry s v j i ≡ v (cellNumber s i j)
+entry-in : (s : Shape) (v : ℕ → ℕ) (j i : ℕ) → i < rows s → entry s v j i ≡ v (cellNumber s i j)
 unfolding entry
 entry-in s v j i l = rw (lt-ltb i (rows s) l) refl
 

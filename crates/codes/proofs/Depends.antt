@@ -12,11 +12,11 @@ use Rattle.codes.specs.declared.Shape.{Shape}
 use Rattle.codes.specs.Shape.{rows, equations, cellNumber, WellFormed}
 use Rattle.codes.specs.Encoded.{sumsCell}
 use Rattle.codes.specs.Depends.{DataCell, DependOn}
-use Rattle.codes.proofs.Shapes.{low, rows-third, columns-third, columns-other, equations-third, equations-other}
+use Rattle.codes.proofs.Shapes.{low, rows-third, columns-third}
 use Rattle.codes.proofs.Residues.{there-and-back}
-use Rattle.codes.proofs.Lines.{rdp-rows, hcode-rows}
+use Rattle.codes.proofs.Lines.{rdp-rows, hcode-rows, hcode-columns}
 use Rattle.codes.proofs.Ordered.{after, sums-parity}
-use Rattle.codes.proofs.Positions.{rdp-parity, rdp-sums, hcode-parity, hcode-sums, xcode-parity, xcode-sums}
+use Rattle.codes.proofs.Positions.{rdp-n, rdp-parity, rdp-sums, hcode-n, hcode-parity, hcode-sums, xcode-n, xcode-parity, xcode-sums}
 
 -- a turned column is small
 pub small-turn : (a n p : ℕ) → 3 ≤ p → p ≤ 31 → a ≡ n % p → a ≤ 31
@@ -45,9 +45,6 @@ module _ (s : Shape) (w : WellFormed s) (i j : ℕ) (cell : DataCell s i j) wher
   pos = omega (arith, low s w)
 
   module _ (is-rdp : s .code ≡ 1) where
-    rdp-E : equations s ≡ 2 * (s .p - 1)
-    rdp-E = sym (equations-other s w (λ e. omega arith))
-
     pub rdp-row-small : i < s .p - 1
     rdp-row-small = omega (arith, cell .low, rdp-rows s w is-rdp)
 
@@ -69,15 +66,12 @@ module _ (s : Shape) (w : WellFormed s) (i j : ℕ) (cell : DataCell s i j) wher
     rdp-depends a b ea eb =
         let la : (i + j) % s .p < s .p = mod-lt (i + j) pos in
         let lb : (i + (s .p - 1)) % s .p < s .p = mod-lt (i + (s .p - 1)) pos in
-        depend s w (cellNumber s i j) i (s .p - 1 + a) (s .p - 1 + b) (cell .low) (omega (arith, rdp-E, rdp-rows s w is-rdp)) (omega (arith, rdp-rows s w is-rdp)) (omega (arith, rdp-E)) (omega (arith, rdp-rows s w is-rdp)) (omega (arith, rdp-E))
+        depend s w (cellNumber s i j) i (s .p - 1 + a) (s .p - 1 + b) (cell .low) (omega (arith, rdp-n s w is-rdp, rdp-rows s w is-rdp)) (omega (arith, rdp-rows s w is-rdp)) (omega (arith, rdp-n s w is-rdp)) (omega (arith, rdp-rows s w is-rdp)) (omega (arith, rdp-n s w is-rdp))
         (rw is-rdp (ap (λ (x : ℕ). s .p - 1 + x) (sym eb)))
         (λ q lq. rdp-sums s w is-rdp i j rdp-row-small rdp-column-small q lq ∙ ap (λ (x : ℕ). eqb q i || eqb q (s .p - 1 + x)) (sym ea))
         (λ l e. two-diagonals (let same : a ≡ b = omega arith in sym ea ∙ same ∙ eb))
 
   module _ (is-hcode : s .code ≡ 2) where
-    hcode-E : equations s ≡ 2 * (s .p - 1)
-    hcode-E = sym (equations-other s w (λ e. omega arith))
-
     pub hcode-row-small : i < s .p - 1
     hcode-row-small = omega (arith, cell .low, hcode-rows s w is-hcode)
 
@@ -87,7 +81,7 @@ module _ (s : Shape) (w : WellFormed s) (i j : ℕ) (cell : DataCell s i j) wher
     pub hcode-column-small : j < s .p
     hcode-column-small =
         by-equal j (s .p) (λ e. clash (hcode-parity s w is-hcode i j (cell .low) ∙ or-left _ (eq-eqb j (s .p) e)) (cell .plain))
-        (λ n. omega (arith, cell .right, columns-other s w (λ e. omega arith)))
+        (λ n. omega (arith, cell .right, hcode-columns s w is-hcode))
 
     -- the anti-diagonal of a data cell is one of the p - 1
     pub one-of-them : (j + (s .p - 2 - i)) % s .p ≢ s .p - 1
@@ -103,15 +97,12 @@ module _ (s : Shape) (w : WellFormed s) (i j : ℕ) (cell : DataCell s i j) wher
     pub hcode-depends : (a : ℕ) → a ≡ (j + (s .p - 2 - i)) % s .p → DependOn s (cellNumber s i j) (record { first = i; second = s .p - 1 + a; third = 2 * (s .p - 1) })
     hcode-depends a ea =
         let la : (j + (s .p - 2 - i)) % s .p < s .p = mod-lt (j + (s .p - 2 - i)) pos in
-        depend s w (cellNumber s i j) i (s .p - 1 + a) (2 * (s .p - 1)) (cell .low) (omega (arith, hcode-E, hcode-rows s w is-hcode)) (omega (arith, hcode-rows s w is-hcode)) (omega (arith, hcode-E)) (omega (arith, hcode-rows s w is-hcode)) (omega (arith, hcode-E))
+        depend s w (cellNumber s i j) i (s .p - 1 + a) (2 * (s .p - 1)) (cell .low) (omega (arith, hcode-n s w is-hcode, hcode-rows s w is-hcode)) (omega (arith, hcode-rows s w is-hcode)) (omega (arith, hcode-n s w is-hcode)) (omega (arith, hcode-rows s w is-hcode)) (omega (arith, hcode-n s w is-hcode))
         (rw is-hcode refl)
         (λ q lq. hcode-sums s w is-hcode i j hcode-row-small hcode-column-small off q lq ∙ ap (λ (x : ℕ). eqb q i || eqb q (s .p - 1 + x)) (sym ea))
-        (λ l e. omega (arith, hcode-E))
+        (λ l e. omega (arith, hcode-n s w is-hcode))
 
   module _ (is-xcode : s .code ≡ 3) where
-    xcode-E : equations s ≡ 2 * s .p
-    xcode-E = sym (equations-third s is-xcode)
-
     pub xcode-row-small : i < s .p - 2
     xcode-row-small = leb-false (s .p - 2) i (xcode-parity s w is-xcode i j (cell .low) (cell .right) ∙ cell .plain)
 
@@ -122,7 +113,7 @@ module _ (s : Shape) (w : WellFormed s) (i j : ℕ) (cell : DataCell s i j) wher
     xcode-depends a b ea eb =
         let la : (j + (s .p - 2 - i)) % s .p < s .p = mod-lt (j + (s .p - 2 - i)) pos in
         let lb : (j + (i + 2)) % s .p < s .p = mod-lt (j + (i + 2)) pos in
-        depend s w (cellNumber s i j) a (s .p + b) (2 * s .p) (omega (arith, rows-third s is-xcode)) (omega (arith, xcode-E, rows-third s is-xcode)) (omega (arith, rows-third s is-xcode)) (omega (arith, xcode-E)) (omega (arith, rows-third s is-xcode)) (omega (arith, xcode-E))
+        depend s w (cellNumber s i j) a (s .p + b) (2 * s .p) (omega (arith, rows-third s is-xcode)) (omega (arith, xcode-n s w is-xcode, rows-third s is-xcode)) (omega (arith, rows-third s is-xcode)) (omega (arith, xcode-n s w is-xcode)) (omega (arith, rows-third s is-xcode)) (omega (arith, xcode-n s w is-xcode))
         (rw is-xcode refl)
         (λ q lq. xcode-sums s w is-xcode i j xcode-row-small xcode-column-small q lq ∙ ap₂ (λ (x y : ℕ). eqb q x || eqb q (s .p + y)) (sym ea) (sym eb))
-        (λ l e. omega (arith, xcode-E))
+        (λ l e. omega (arith, xcode-n s w is-xcode))

@@ -14,8 +14,8 @@ use Rattle.codes.specs.Shape.{rows, equations, cellNumber, WellFormed}
 use Rattle.codes.specs.Encoded.{parityCell, sumsCell}
 use Rattle.codes.specs.Depends.{DataCell, DependOn}
 use Rattle.codes.specs.Holders.{holds, ParityCell, HeldBy}
-use Rattle.codes.proofs.Shapes.{low, columns-third, columns-other}
-use Rattle.codes.proofs.Lines.{rdp-rows, hcode-rows}
+use Rattle.codes.proofs.Shapes.{low, columns-third}
+use Rattle.codes.proofs.Lines.{rdp-rows, rdp-columns, hcode-rows}
 use Rattle.codes.proofs.Ordered.{ordered, after, sums-parity}
 use Rattle.codes.proofs.Positions.{parity-yes, rdp-n, rdp-first, rdp-second, rdp-parity, hcode-n, hcode-first, hcode-second, hcode-parity, xcode-n, xcode-rows, xcode-first-at, xcode-second-at, xcode-parity}
 
@@ -43,7 +43,7 @@ module _ (s : Shape) (w : WellFormed s) where
 
   module _ (r c second : ℕ) (is : parityCell s r ≡ c) where
     -- of the first family: the equation after it sums the cell
-    pub first-held : r < rows s → rows s ≤ second → second ≤ equations s → r < equations s → after s r ≡ second
+    first-held : r < rows s → rows s ≤ second → second ≤ equations s → r < equations s → after s r ≡ second
         → HeldBy s c (record { first = r; second = second })
     unfolding holds
     first-held l low high lr next = record {
@@ -55,7 +55,7 @@ module _ (s : Shape) (w : WellFormed s) where
     }
 
     -- of the second: no other equation holds it
-    pub second-held : rows s ≤ r → r < equations s → second ≡ equations s → HeldBy s c (record { first = r; second = second })
+    second-held : rows s ≤ r → r < equations s → second ≡ equations s → HeldBy s c (record { first = r; second = second })
     unfolding holds
     second-held l lr last = record {
       there = lr;
@@ -77,7 +77,7 @@ module _ (s : Shape) (w : WellFormed s) where
           (rw is-rdp (ap (λ (x : ℕ). s .p - 1 + x) (sym ea)))
         where
           column : j ≡ s .p - 1
-          column = omega (arith, cell .right, columns-other s w (λ e. omega arith), leb-true (s .p - 1) j (rdp-parity s w is-rdp i j (cell .low) (cell .right) ∙ cell .parity))
+          column = omega (arith, cell .right, rdp-columns s w is-rdp, leb-true (s .p - 1) j (rdp-parity s w is-rdp i j (cell .low) (cell .right) ∙ cell .parity))
 
       pub rdp-diagonal-held : j ≡ s .p → HeldBy s (cellNumber s i j) (record { first = s .p - 1 + i; second = 2 * (s .p - 1) })
       rdp-diagonal-held e =

@@ -27,10 +27,10 @@ abbrev lineColumn : ℕ → Line → ℕ → ℕ
 lineColumn p l k = (l .column + l .step * k) % p
 
 -- a line that falls from row 0 on, and one along row r
-abbrev pub fallen : ℕ → ℕ → ℕ → ℕ → Line
+abbrev fallen : ℕ → ℕ → ℕ → ℕ → Line
 fallen parity count column step = record { parity = parity; count = count; row = 0; fall = 1; column = column; step = step }
 
-abbrev pub flat : ℕ → ℕ → ℕ → ℕ → Line
+abbrev flat : ℕ → ℕ → ℕ → ℕ → Line
 flat parity count r column = record { parity = parity; count = count; row = r; fall = 0; column = column; step = 1 }
 
 -- the line goes through the cells (i, j) that pass the test, once through each
@@ -137,6 +137,9 @@ module _ (s : Shape) (w : WellFormed s) where
     pub rdp-rows : s .p - 1 ≡ rows s
     rdp-rows = rows-other s w (λ e. omega arith)
 
+    pub rdp-columns : s .p + 1 ≡ columns s
+    rdp-columns = columns-other s w (λ e. omega arith)
+
     pub rdp-row-is : (q : ℕ) → q < s .p - 1 → equation s q ≡ rdpRow (s .p) q
     unfolding equation
     rdp-row-is q l = rw (is-rdp, lt-ltb q (s .p - 1) l) refl
@@ -206,6 +209,9 @@ module _ (s : Shape) (w : WellFormed s) where
   module _ (is-hcode : s .code ≡ 2) where
     pub hcode-rows : s .p - 1 ≡ rows s
     hcode-rows = rows-other s w (λ e. omega arith)
+
+    pub hcode-columns : s .p + 1 ≡ columns s
+    hcode-columns = columns-other s w (λ e. omega arith)
 
     pub hcode-row-is : (q : ℕ) → q < s .p - 1 → equation s q ≡ hcodeRow (s .p) q
     unfolding equation

@@ -2,7 +2,7 @@
 use mathlib.Core.Path.{_≡_, refl, sym, ap, _∙_, subst}
 use mathlib.Core.List.{List}
 use mathlib.Core.Bool.{true, cond}
-use Prim.Native.Nat.{ℕ, _/_, _%_, _<_}
+use Prim.Native.Nat.{ℕ, _*_, _/_, _%_, _<_}
 use native.Mathlib.Nat.{mod-lt, div-lt-iff-lt-mul, div-add-mod'}
 use native.Mathlib.Omega.{arith}
 use lib.ListN.{length, getD}
@@ -27,14 +27,19 @@ module _ (s : Shape) (q : ℕ) where
   sum-byte f h = xors-bits 8 (cells s) (λ c. cond (sumsCell s q c) (f c) 0) (λ c l. by-test (sumsCell s q c) (λ p. rw p (h c l)) (λ p. rw p (omega arith)))
 
 -- a byte of the stripe is a byte of a cell
-pub byte-is : (s : Shape) → WellFormed s → (stripe : List ℕ) (i : ℕ) → getD stripe i 0 ≡ byteAt s stripe (i / s .cell) (i % s .cell)
+byte-is : (s : Shape) → WellFormed s → (stripe : List ℕ) (i : ℕ) → getD stripe i 0 ≡ byteAt s stripe (i / s .cell) (i % s .cell)
 unfolding byteAt
 byte-is s w stripe i = ap (λ (k : ℕ). getD stripe k 0) (sym (div-add-mod' i (s .cell)))
 
--- stripes that agree in every byte of every cell are equal
+-- bytes of n cells that agree in every byte of every cell are equal
+pub same-cells : (s : Shape) → WellFormed s → (n : ℕ) (a b : List ℕ) → length a ≡ n * s .cell → length b ≡ n * s .cell
+    → ((c : ℕ) → c < n → (t : ℕ) → t < s .cell → byteAt s a c t ≡ byteAt s b c t) → a ≡ b
+same-cells s w n a b la lb h =
+    ext-getD 0 a b (la ∙ sym lb)
+    (λ i l. byte-is s w a i ∙ h (i / s .cell) (div-lt-iff-lt-mul (w .cellLow) .1 (subst (λ (m : ℕ). i < m) la l)) (i % s .cell) (mod-lt i (w .cellLow)) ∙ sym (byte-is s w b i))
+
+-- and so are stripes
 pub same-bytes : (s : Shape) → WellFormed s → (a b : List ℕ) → length a ≡ stripeLength s → length b ≡ stripeLength s
     → ((c : ℕ) → c < cells s → (t : ℕ) → t < s .cell → byteAt s a c t ≡ byteAt s b c t) → a ≡ b
 unfolding stripeLength
-same-bytes s w a b la lb h =
-    ext-getD 0 a b (la ∙ sym lb)
-    (λ i l. byte-is s w a i ∙ h (i / s .cell) (div-lt-iff-lt-mul (w .cellLow) .1 (subst (λ (n : ℕ). i < n) la l)) (i % s .cell) (mod-lt i (w .cellLow)) ∙ sym (byte-is s w b i))
+same-bytes s w = same-cells s w (cells s)

@@ -2,7 +2,7 @@
 use mathlib.Core.Path.{_≡_, sym, ap, ap₂, _∙_, subst}
 use mathlib.Core.Logic.{_≢_, _⊎_, inl, inr}
 use mathlib.Core.List.{List}
-use Prim.Native.Nat.{ℕ, _+_, _-_, _*_, _%_, _≤_, _<_}
+use Prim.Native.Nat.{ℕ, _+_, _*_, _%_, _≤_, _<_}
 use native.Mathlib.Nat.{mul-le-mul, mul-le-mul-left, mul-le-mul-right, mul-add, mul-one, mul-zero, add-mul, one-mul, mod-add-mod, mod-eq-of-lt, mod-lt}
 use native.Mathlib.Omega.{arith}
 use lib.ListN.{length, getD, set, length-set}
@@ -23,7 +23,7 @@ use Rattle.codes.proofs.Ordered.{ordered}
 -- ---- one cell after the other
 
 -- the number of cell k of a line in columns of n cells, as the code works it out
-abbrev pub spot : (p n fall step row column k : ℕ) → ℕ
+abbrev spot : (p n fall step row column k : ℕ) → ℕ
 spot p n fall step row column k = (column + step * k) % p * n + (row + fall * k)
 
 -- the code has filled in the places of the first k cells, and stands in the row and the column of cell k

@@ -14,9 +14,9 @@ use Rattle.codes.specs.declared.Shape.{Shape}
 use Rattle.codes.specs.Shape.{rows, columns, equations, cells, cellNumber, WellFormed}
 use Rattle.codes.specs.Equations.{Equation, equation, rdpRow, rdpDiagonal, hcodeRow, hcodeAntiDiagonal, xcodeFirst, xcodeSecond}
 use Rattle.codes.specs.Encoded.{parityCell, sumsCell, isParity}
-use Rattle.codes.proofs.Shapes.{low, cells-high, rows-third, columns-third, columns-other, equations-third, equations-other}
+use Rattle.codes.proofs.Shapes.{low, cells-high, rows-third, columns-third, equations-third, equations-other}
 use Rattle.codes.proofs.Residues.{wrapped, there-and-back}
-use Rattle.codes.proofs.Lines.{rdp-rows, rdp-row-is, rdp-diagonal-is, hcode-rows, hcode-row-is, hcode-anti-is, xcode-first-is, xcode-second-is}
+use Rattle.codes.proofs.Lines.{rdp-rows, rdp-columns, rdp-row-is, rdp-diagonal-is, hcode-rows, hcode-row-is, hcode-anti-is, xcode-first-is, xcode-second-is}
 
 -- two families of n equations each
 pub families : (P : ℕ → Type 0) (n : ℕ) → ((r : ℕ) → r < n → P r) → ((d : ℕ) → d < n → P (n + d)) → (q : ℕ) → q < 2 * n → P q
@@ -50,10 +50,10 @@ module _ (s : Shape) (w : WellFormed s) where
   place-small i j n e li lj = mul-le-mul (number-small i j n e li lj) (w .cellHigh)
 
   -- a cell has one row and one column
-  same-row : (i j k l : ℕ) → i < rows s → k < rows s → cellNumber s i j ≡ cellNumber s k l → i ≡ k
+  pub same-row : (i j k l : ℕ) → i < rows s → k < rows s → cellNumber s i j ≡ cellNumber s k l → i ≡ k
   same-row i j k l li lk e = sym (row-is i j li) ∙ ap (λ (c : ℕ). c % rows s) e ∙ row-is k l lk
 
-  same-column : (i j k l : ℕ) → i < rows s → k < rows s → cellNumber s i j ≡ cellNumber s k l → j ≡ l
+  pub same-column : (i j k l : ℕ) → i < rows s → k < rows s → cellNumber s i j ≡ cellNumber s k l → j ≡ l
   same-column i j k l li lk e = sym (column-is i j li) ∙ ap (λ (c : ℕ). c / rows s) e ∙ column-is k l lk
 
   -- an equation that is known
@@ -98,7 +98,7 @@ module _ (s : Shape) (w : WellFormed s) where
     pub rdp-first : (r : ℕ) → r < s .p - 1 → parityCell s r ≡ cellNumber s r (s .p - 1)
     rdp-first r l = parity-of r (rdpRow (s .p) r) (rdp-row-is s w is-rdp r l)
 
-    rdp-second-is : (d : ℕ) → equation s (s .p - 1 + d) ≡ rdpDiagonal (s .p) d
+    pub rdp-second-is : (d : ℕ) → equation s (s .p - 1 + d) ≡ rdpDiagonal (s .p) d
     rdp-second-is d = rdp-diagonal-is s w is-rdp (s .p - 1 + d) (omega arith) ∙ ap (rdpDiagonal (s .p)) same
       where
         same : s .p - 1 + d - (s .p - 1) ≡ d
@@ -120,7 +120,7 @@ module _ (s : Shape) (w : WellFormed s) where
         (λ r l er ec. le-leb (s .p - 1) j (omega arith)) (λ d l er ec. le-leb (s .p - 1) j (omega arith)))
       where
         last : j ≢ s .p - 1 → s .p - 1 ≤ j → s .p ≡ j
-        last n lo = omega (arith, columns-other s w (λ e. omega arith))
+        last n lo = omega (arith, rdp-columns s w is-rdp)
 
     -- a data cell is in its row and on its diagonal
     pub rdp-sums : (i j : ℕ) → i < s .p - 1 → j < s .p - 1 → (q : ℕ) → q < equations s
@@ -152,7 +152,7 @@ module _ (s : Shape) (w : WellFormed s) where
     pub hcode-first : (r : ℕ) → r < s .p - 1 → parityCell s r ≡ cellNumber s r (s .p)
     hcode-first r l = parity-of r (hcodeRow (s .p) r) (hcode-row-is s w is-hcode r l)
 
-    hcode-second-is : (r : ℕ) → equation s (s .p - 1 + r) ≡ hcodeAntiDiagonal (s .p) r
+    pub hcode-second-is : (r : ℕ) → equation s (s .p - 1 + r) ≡ hcodeAntiDiagonal (s .p) r
     hcode-second-is r = hcode-anti-is s w is-hcode (s .p - 1 + r) (omega arith) ∙ ap (hcodeAntiDiagonal (s .p)) same
       where
         same : s .p - 1 + r - (s .p - 1) ≡ r
@@ -235,7 +235,7 @@ module _ (s : Shape) (w : WellFormed s) where
     pub xcode-first-at : (c : ℕ) → c < s .p → parityCell s c ≡ cellNumber s (s .p - 2) c
     xcode-first-at c l = parity-of c (xcodeFirst (s .p) c) (xcode-first-is s w is-xcode c l)
 
-    xcode-family-is : (c : ℕ) → equation s (s .p + c) ≡ xcodeSecond (s .p) c
+    pub xcode-family-is : (c : ℕ) → equation s (s .p + c) ≡ xcodeSecond (s .p) c
     xcode-family-is c = xcode-second-is s w is-xcode (s .p + c) (omega arith) ∙ ap (xcodeSecond (s .p)) same
       where
         same : s .p + c - s .p ≡ c

@@ -15,20 +15,18 @@ use Rattle.xor.proofs.Sets.{any-none, none-any}
 use Rattle.codes.specs.declared.Shape.{Shape}
 use Rattle.codes.specs.Shape.{listed, rows, columns, cells, cellNumber, stripeLength, WellFormed}
 use Rattle.codes.specs.Encoded.{isParity}
-use Rattle.codes.specs.Refusals.{order, applies, firstOf, refusal, outside, stripeFaults, writeFaults, namingFaults, cellsFaults, columnsFaults}
+use Rattle.codes.specs.Refusals.{order, applies, firstOf, refusal, outside, shapeFaults, stripeFaults, writeFaults, namingFaults, cellsFaults, columnsFaults}
 use Rattle.codes.specs.Depends.{WriteRight}
 use Rattle.codes.proofs.Shapes.{each-code}
 
--- the four tests in their order
-chain : (a b c d : Bool)
-    → refusal (record { number = 1; applies = a } ∷ record { number = 2; applies = b } ∷ record { number = 4; applies = c } ∷ record { number = 5; applies = d } ∷ [])
-    ≡ cond a 1 (cond b 2 (cond c 4 (cond d 5 0)))
+-- the three tests of a shape in their order
+chain : (a b c : Bool)
+    → refusal (record { number = 1; applies = a } ∷ record { number = 2; applies = b } ∷ record { number = 4; applies = c } ∷ []) ≡ cond a 1 (cond b 2 (cond c 4 0))
 unfolding refusal firstOf order applies
-chain true b c d = refl
-chain false true c d = refl
-chain false false true d = refl
-chain false false false true = refl
-chain false false false false = refl
+chain true b c = refl
+chain false true c = refl
+chain false false true = refl
+chain false false false = refl
 
 abbrev badCode : ℕ → Bool
 badCode code = not (eqb code 1 || eqb code 2 || eqb code 3)
@@ -36,70 +34,66 @@ badCode code = not (eqb code 1 || eqb code 2 || eqb code 3)
 abbrev badCell : ℕ → Bool
 badCell cell = not (leb 1 cell && leb cell 4096)
 
-module _ (s : Shape) (bytes : ℕ) where
-  ordered : refusal (stripeFaults s bytes) ≡ cond (badCode (s .code)) 1 (cond (not (listed (s .p))) 2 (cond (badCell (s .cell)) 4 (cond (not (eqb bytes (stripeLength s))) 5 0)))
-  unfolding stripeFaults
-  ordered = chain (badCode (s .code)) (not (listed (s .p))) (badCell (s .cell)) (not (eqb bytes (stripeLength s)))
+module _ (s : Shape) where
+  ordered : refusal (shapeFaults s) ≡ cond (badCode (s .code)) 1 (cond (not (listed (s .p))) 2 (cond (badCell (s .cell)) 4 0))
+  unfolding shapeFaults
+  ordered = chain (badCode (s .code)) (not (listed (s .p))) (badCell (s .cell))
 
   -- ---- the code's tests, and what they say
 
-  pub code-zero : s .code ≡ 0 → 1 ≡ refusal (stripeFaults s bytes)
+  pub code-zero : s .code ≡ 0 → 1 ≡ refusal (shapeFaults s)
   code-zero e = rw (ordered, e) refl
 
-  pub code-large : 3 < s .code → 1 ≡ refusal (stripeFaults s bytes)
+  pub code-large : 3 < s .code → 1 ≡ refusal (shapeFaults s)
   code-large l = rw (ordered, ne-eqb (s .code) 1 (λ e. omega arith), ne-eqb (s .code) 2 (λ e. omega arith), ne-eqb (s .code) 3 (λ e. omega arith)) refl
 
   module _ (lo : s .code ≢ 0) (hi : s .code ≤ 3) where
     code-right : badCode (s .code) ≡ false
     code-right = each-code (λ c. badCode c ≡ false) refl refl refl (s .code) (omega arith) hi
 
-    pub prime-other : listed (s .p) ≡ false → 2 ≡ refusal (stripeFaults s bytes)
+    pub prime-other : listed (s .p) ≡ false → 2 ≡ refusal (shapeFaults s)
     prime-other e = rw (ordered, code-right, e) refl
 
     module _ (prime : listed (s .p) ≡ true) where
-      pub cell-zero : s .cell ≡ 0 → 4 ≡ refusal (stripeFaults s bytes)
+      pub cell-zero : s .cell ≡ 0 → 4 ≡ refusal (shapeFaults s)
       cell-zero e = rw (ordered, code-right, prime, e) refl
 
-      pub cell-large : 4096 < s .cell → 4 ≡ refusal (stripeFaults s bytes)
+      pub cell-large : 4096 < s .cell → 4 ≡ refusal (shapeFaults s)
       cell-large l = rw (ordered, code-right, prime, le-leb 1 (s .cell) (omega arith), lt-leb (s .cell) 4096 l) refl
 
       module _ (cell-lo : s .cell ≢ 0) (cell-hi : s .cell ≤ 4096) where
         cell-right : badCell (s .cell) ≡ false
         cell-right = rw (le-leb 1 (s .cell) (omega arith), le-leb (s .cell) 4096 cell-hi) refl
 
-        pub well-formed : WellFormed s
+        well-formed : WellFormed s
         well-formed = record { codeLow = omega arith; codeHigh = hi; prime = prime; cellLow = omega arith; cellHigh = cell-hi }
 
-        pub length-other : bytes ≢ stripeLength s → 5 ≡ refusal (stripeFaults s bytes)
-        length-other n = rw (ordered, code-right, prime, cell-right, ne-eqb bytes (stripeLength s) n) refl
+        pub shape-right : 0 ≡ refusal (shapeFaults s)
+        shape-right = rw (ordered, code-right, prime, cell-right) refl
 
-        pub all-right : bytes ≡ stripeLength s → 0 ≡ refusal (stripeFaults s bytes)
-        all-right e = rw (ordered, code-right, prime, cell-right, eq-eqb bytes (stripeLength s) e) refl
-
--- a stripe that is not refused is well formed, and of the right length
-pub accepted : (s : Shape) (bytes : ℕ) → refusal (stripeFaults s bytes) ≡ 0 → WellFormed s × (bytes ≡ stripeLength s)
-accepted s bytes none =
-    by-equal (s .code) 0 (λ e. stop 1 (code-zero s bytes e) (omega arith))
-    (λ lo. by-less 3 (s .code) (λ l. stop 1 (code-large s bytes l) (omega arith))
+-- a shape that is not refused is well formed
+pub shape-accepted : (s : Shape) → refusal (shapeFaults s) ≡ 0 → WellFormed s
+shape-accepted s none =
+    by-equal (s .code) 0 (λ e. stop 1 (code-zero s e) (omega arith))
+    (λ lo. by-less 3 (s .code) (λ l. stop 1 (code-large s l) (omega arith))
     (λ hi. by-test (listed (s .p))
-    (λ prime. by-equal (s .cell) 0 (λ e. stop 4 (cell-zero s bytes lo hi prime e) (omega arith))
-    (λ clo. by-less 4096 (s .cell) (λ l. stop 4 (cell-large s bytes lo hi prime l) (omega arith))
-    (λ chi. by-equal bytes (stripeLength s) (λ e. (well-formed s bytes lo hi prime clo chi, e))
-    (λ n. stop 5 (length-other s bytes lo hi prime clo chi n) (omega arith)))))
-    (λ e. stop 2 (prime-other s bytes lo hi e) (omega arith))))
+    (λ prime. by-equal (s .cell) 0 (λ e. stop 4 (cell-zero s lo hi prime e) (omega arith))
+    (λ clo. by-less 4096 (s .cell) (λ l. stop 4 (cell-large s lo hi prime l) (omega arith))
+    (λ chi. well-formed s lo hi prime clo chi)))
+    (λ e. stop 2 (prime-other s lo hi e) (omega arith))))
   where
-    stop : {A : Type 0} (n : ℕ) → n ≡ refusal (stripeFaults s bytes) → 0 < n → A
+    stop : {A : Type 0} (n : ℕ) → n ≡ refusal (shapeFaults s) → 0 < n → A
     stop n e l = absurd (let same : n ≡ 0 = e ∙ none in omega arith)
 
--- ---- a call with tests of its own, which come after those of the stripe
+-- ---- a call with tests of its own, which come after others
 
-orElse : ℕ → ℕ → ℕ
+unfoldable pub orElse : ℕ → ℕ → ℕ
 orElse zero x = x
 orElse (suc n) x = suc n
 
-module _ (s : Shape) (bytes own given : ℕ) (ordering : given ≡ orElse (refusal (stripeFaults s bytes)) own) where
-  -- the stripe's refusal is given
-  given-first : (r : ℕ) → r ≡ refusal (stripeFaults s bytes) → r ≢ 0 → r ≡ given
+module _ (base own given : ℕ) (ordering : given ≡ orElse base own) where
+  -- what comes first is given
+  pub given-first : (r : ℕ) → r ≡ base → r ≢ 0 → r ≡ given
   unfolding orElse
   given-first r e n = sym (ordering ∙ ap (λ (x : ℕ). orElse x own) (sym e) ∙ some-first r n)
     where
@@ -107,17 +101,63 @@ module _ (s : Shape) (bytes own given : ℕ) (ordering : given ≡ orElse (refus
       some-first zero n′ = absurd (n′ refl)
       some-first (suc k) n′ = refl
 
-  -- the stripe has none
-  given-own : refusal (stripeFaults s bytes) ≡ 0 → given ≡ own
+  -- nothing comes first
+  pub given-own : base ≡ 0 → given ≡ own
   unfolding orElse
   given-own right = ordering ∙ ap (λ (x : ℕ). orElse x own) right
+
+-- ---- a lent stripe
+
+stripe-chain : (a b c d : Bool)
+    → refusal (record { number = 5; applies = d } ∷ record { number = 1; applies = a } ∷ record { number = 2; applies = b } ∷ record { number = 4; applies = c } ∷ [])
+    ≡ orElse (cond a 1 (cond b 2 (cond c 4 0))) (cond d 5 0)
+unfolding refusal firstOf order applies orElse
+stripe-chain true b c d = refl
+stripe-chain false true c d = refl
+stripe-chain false false true d = refl
+stripe-chain false false false true = refl
+stripe-chain false false false false = refl
+
+module _ (s : Shape) (bytes : ℕ) where
+  stripe-ordered : refusal (stripeFaults s bytes) ≡ orElse (refusal (shapeFaults s)) (cond (not (eqb bytes (stripeLength s))) 5 0)
+  unfolding stripeFaults shapeFaults
+  stripe-ordered =
+      stripe-chain (badCode (s .code)) (not (listed (s .p))) (badCell (s .cell)) (not (eqb bytes (stripeLength s)))
+      ∙ ap (λ (x : ℕ). orElse x (cond (not (eqb bytes (stripeLength s))) 5 0)) (sym (ordered s))
+
+  pub shape-first : (r : ℕ) → r ≡ refusal (shapeFaults s) → r ≢ 0 → r ≡ refusal (stripeFaults s bytes)
+  shape-first = given-first (refusal (shapeFaults s)) (cond (not (eqb bytes (stripeLength s))) 5 0) (refusal (stripeFaults s bytes)) stripe-ordered
+
+  module _ (right : refusal (shapeFaults s) ≡ 0) where
+    stripe-test : refusal (stripeFaults s bytes) ≡ cond (not (eqb bytes (stripeLength s))) 5 0
+    stripe-test = given-own (refusal (shapeFaults s)) (cond (not (eqb bytes (stripeLength s))) 5 0) (refusal (stripeFaults s bytes)) stripe-ordered right
+
+    pub length-other : bytes ≢ stripeLength s → 5 ≡ refusal (stripeFaults s bytes)
+    length-other n = rw (stripe-test, ne-eqb bytes (stripeLength s) n) refl
+
+    pub all-right : bytes ≡ stripeLength s → 0 ≡ refusal (stripeFaults s bytes)
+    all-right e = rw (stripe-test, eq-eqb bytes (stripeLength s) e) refl
+
+-- the four tests of a stripe in their order
+ordered-stripe : (s : Shape) (bytes : ℕ) → refusal (stripeFaults s bytes)
+    ≡ orElse (cond (badCode (s .code)) 1 (cond (not (listed (s .p))) 2 (cond (badCell (s .cell)) 4 0))) (cond (not (eqb bytes (stripeLength s))) 5 0)
+unfolding stripeFaults shapeFaults
+ordered-stripe s bytes = stripe-chain (badCode (s .code)) (not (listed (s .p))) (badCell (s .cell)) (not (eqb bytes (stripeLength s)))
+
+-- a stripe that is not refused is well formed, and of the right length
+pub accepted : (s : Shape) (bytes : ℕ) → refusal (stripeFaults s bytes) ≡ 0 → WellFormed s × (bytes ≡ stripeLength s)
+accepted s bytes none =
+    by-equal (refusal (shapeFaults s)) 0
+    (λ right. by-equal bytes (stripeLength s) (λ e. (shape-accepted s right, e))
+    (λ n. absurd (let five : 5 ≡ 0 = length-other s bytes right n ∙ none in omega arith)))
+    (λ n. absurd (n (shape-first s bytes (refusal (shapeFaults s)) refl n ∙ none)))
 
 -- ---- a small write
 
 write-chain : (a b c d f g h : Bool)
     → refusal (record { number = 6; applies = f } ∷ record { number = 7; applies = g } ∷ record { number = 8; applies = h }
-    ∷ record { number = 1; applies = a } ∷ record { number = 2; applies = b } ∷ record { number = 4; applies = c } ∷ record { number = 5; applies = d } ∷ [])
-    ≡ orElse (cond a 1 (cond b 2 (cond c 4 (cond d 5 0)))) (cond f 6 (cond g 7 (cond h 8 0)))
+    ∷ record { number = 5; applies = d } ∷ record { number = 1; applies = a } ∷ record { number = 2; applies = b } ∷ record { number = 4; applies = c } ∷ [])
+    ≡ orElse (orElse (cond a 1 (cond b 2 (cond c 4 0))) (cond d 5 0)) (cond f 6 (cond g 7 (cond h 8 0)))
 unfolding refusal firstOf order applies orElse
 write-chain true b c d f g h = refl
 write-chain false true c d f g h = refl
@@ -131,17 +171,17 @@ write-chain false false false false false false false = refl
 module _ (s : Shape) (bytes row column new : ℕ) where
   write-ordered : refusal (writeFaults s bytes row column new)
       ≡ orElse (refusal (stripeFaults s bytes)) (cond (outside s row column) 6 (cond (isParity s (cellNumber s row column)) 7 (cond (not (eqb new (s .cell))) 8 0)))
-  unfolding writeFaults stripeFaults
+  unfolding writeFaults stripeFaults shapeFaults
   write-ordered =
       write-chain (badCode (s .code)) (not (listed (s .p))) (badCell (s .cell)) (not (eqb bytes (stripeLength s))) (outside s row column) (isParity s (cellNumber s row column)) (not (eqb new (s .cell)))
-      ∙ ap (λ (x : ℕ). orElse x (cond (outside s row column) 6 (cond (isParity s (cellNumber s row column)) 7 (cond (not (eqb new (s .cell))) 8 0)))) (sym (ordered s bytes))
+      ∙ ap (λ (x : ℕ). orElse x (cond (outside s row column) 6 (cond (isParity s (cellNumber s row column)) 7 (cond (not (eqb new (s .cell))) 8 0)))) (sym (ordered-stripe s bytes))
 
   pub stripe-first : (r : ℕ) → r ≡ refusal (stripeFaults s bytes) → r ≢ 0 → r ≡ refusal (writeFaults s bytes row column new)
-  stripe-first = given-first s bytes (cond (outside s row column) 6 (cond (isParity s (cellNumber s row column)) 7 (cond (not (eqb new (s .cell))) 8 0))) (refusal (writeFaults s bytes row column new)) write-ordered
+  stripe-first = given-first (refusal (stripeFaults s bytes)) (cond (outside s row column) 6 (cond (isParity s (cellNumber s row column)) 7 (cond (not (eqb new (s .cell))) 8 0))) (refusal (writeFaults s bytes row column new)) write-ordered
 
   module _ (right : refusal (stripeFaults s bytes) ≡ 0) where
-    pub write-tests : refusal (writeFaults s bytes row column new) ≡ cond (outside s row column) 6 (cond (isParity s (cellNumber s row column)) 7 (cond (not (eqb new (s .cell))) 8 0))
-    write-tests = given-own s bytes (cond (outside s row column) 6 (cond (isParity s (cellNumber s row column)) 7 (cond (not (eqb new (s .cell))) 8 0))) (refusal (writeFaults s bytes row column new)) write-ordered right
+    write-tests : refusal (writeFaults s bytes row column new) ≡ cond (outside s row column) 6 (cond (isParity s (cellNumber s row column)) 7 (cond (not (eqb new (s .cell))) 8 0))
+    write-tests = given-own (refusal (stripeFaults s bytes)) (cond (outside s row column) 6 (cond (isParity s (cellNumber s row column)) 7 (cond (not (eqb new (s .cell))) 8 0))) (refusal (writeFaults s bytes row column new)) write-ordered right
 
     pub row-outside : rows s ≤ row → 6 ≡ refusal (writeFaults s bytes row column new)
     row-outside l = rw (write-tests, le-ltb row (rows s) l) refl
@@ -181,8 +221,8 @@ write-accepted s bytes row column new none =
 
 naming-chain : (a b c d out : Bool)
     → refusal (record { number = 6; applies = out }
-    ∷ record { number = 1; applies = a } ∷ record { number = 2; applies = b } ∷ record { number = 4; applies = c } ∷ record { number = 5; applies = d } ∷ [])
-    ≡ orElse (cond a 1 (cond b 2 (cond c 4 (cond d 5 0)))) (cond out 6 0)
+    ∷ record { number = 5; applies = d } ∷ record { number = 1; applies = a } ∷ record { number = 2; applies = b } ∷ record { number = 4; applies = c } ∷ [])
+    ≡ orElse (orElse (cond a 1 (cond b 2 (cond c 4 0))) (cond d 5 0)) (cond out 6 0)
 unfolding refusal firstOf order applies orElse
 naming-chain true b c d out = refl
 naming-chain false true c d out = refl
@@ -193,17 +233,17 @@ naming-chain false false false false false = refl
 
 module _ (s : Shape) (bytes : ℕ) (out : Bool) where
   naming-ordered : refusal (namingFaults s bytes out) ≡ orElse (refusal (stripeFaults s bytes)) (cond out 6 0)
-  unfolding stripeFaults
+  unfolding stripeFaults shapeFaults
   naming-ordered =
       naming-chain (badCode (s .code)) (not (listed (s .p))) (badCell (s .cell)) (not (eqb bytes (stripeLength s))) out
-      ∙ ap (λ (x : ℕ). orElse x (cond out 6 0)) (sym (ordered s bytes))
+      ∙ ap (λ (x : ℕ). orElse x (cond out 6 0)) (sym (ordered-stripe s bytes))
 
   naming-first : (r : ℕ) → r ≡ refusal (stripeFaults s bytes) → r ≢ 0 → r ≡ refusal (namingFaults s bytes out)
-  naming-first = given-first s bytes (cond out 6 0) (refusal (namingFaults s bytes out)) naming-ordered
+  naming-first = given-first (refusal (stripeFaults s bytes)) (cond out 6 0) (refusal (namingFaults s bytes out)) naming-ordered
 
   module _ (right : refusal (stripeFaults s bytes) ≡ 0) where
     naming-test : refusal (namingFaults s bytes out) ≡ cond out 6 0
-    naming-test = given-own s bytes (cond out 6 0) (refusal (namingFaults s bytes out)) naming-ordered right
+    naming-test = given-own (refusal (stripeFaults s bytes)) (cond out 6 0) (refusal (namingFaults s bytes out)) naming-ordered right
 
     naming-out : out ≡ true → 6 ≡ refusal (namingFaults s bytes out)
     naming-out e = sym (naming-test ∙ ap (λ (b : Bool). cond b 6 0) e)
@@ -212,7 +252,7 @@ module _ (s : Shape) (bytes : ℕ) (out : Bool) where
     naming-in e = sym (naming-test ∙ ap (λ (b : Bool). cond b 6 0) e)
 
 -- a call that is not refused has a right stripe, and nothing that it names is outside
-pub naming-accepted : (s : Shape) (bytes : ℕ) (out : Bool) → refusal (namingFaults s bytes out) ≡ 0 → WellFormed s × (bytes ≡ stripeLength s) × (out ≡ false)
+naming-accepted : (s : Shape) (bytes : ℕ) (out : Bool) → refusal (namingFaults s bytes out) ≡ 0 → WellFormed s × (bytes ≡ stripeLength s) × (out ≡ false)
 naming-accepted s bytes out none =
     by-equal (refusal (stripeFaults s bytes)) 0
     (λ right. by-test out
@@ -221,7 +261,7 @@ naming-accepted s bytes out none =
     (λ n. absurd (n (naming-first s bytes out (refusal (stripeFaults s bytes)) refl n ∙ none)))
 
 -- all numbers of the list are below n
-abbrev pub AllBelow : List ℕ → ℕ → Type 0
+abbrev AllBelow : List ℕ → ℕ → Type 0
 AllBelow numbers n = (k : ℕ) → k < length numbers → getD numbers k 0 < n
 
 module _ (s : Shape) (bytes : ℕ) (numbers : List ℕ) where

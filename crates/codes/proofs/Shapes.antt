@@ -29,7 +29,7 @@ each-prime P x3 x5 x7 x11 x13 x17 x19 x23 x29 x31 p h =
     at n x e = subst P (sym (eqb-true p n e)) x
 
 -- one of the ten, as the code's `match` tells them
-abbrev pub OneOfTen : ℕ → Type 0
+abbrev OneOfTen : ℕ → Type 0
 OneOfTen p = (p ≡ 3) ⊎ ((p ≡ 5) ⊎ ((p ≡ 7) ⊎ ((p ≡ 11) ⊎ ((p ≡ 13) ⊎ ((p ≡ 17) ⊎ ((p ≡ 19) ⊎ ((p ≡ 23) ⊎ ((p ≡ 29) ⊎ (p ≡ 31)))))))))
 
 pub one-of : (p : ℕ) → OneOfTen p → listed p ≡ true
@@ -47,10 +47,10 @@ none-of p none =
     (inr (inr (inr (inr (inr (inl refl)))))) (inr (inr (inr (inr (inr (inr (inl refl))))))) (inr (inr (inr (inr (inr (inr (inr (inl refl))))))))
     (inr (inr (inr (inr (inr (inr (inr (inr (inl refl))))))))) (inr (inr (inr (inr (inr (inr (inr (inr (inr refl))))))))) p h))
 
-pub prime-low : (p : ℕ) → listed p ≡ true → 3 ≤ p
+prime-low : (p : ℕ) → listed p ≡ true → 3 ≤ p
 prime-low = each-prime (λ p. 3 ≤ p) (omega arith) (omega arith) (omega arith) (omega arith) (omega arith) (omega arith) (omega arith) (omega arith) (omega arith) (omega arith)
 
-pub prime-high : (p : ℕ) → listed p ≡ true → p ≤ 31
+prime-high : (p : ℕ) → listed p ≡ true → p ≤ 31
 prime-high = each-prime (λ p. p ≤ 31) (omega arith) (omega arith) (omega arith) (omega arith) (omega arith) (omega arith) (omega arith) (omega arith) (omega arith) (omega arith)
 
 -- what holds of each of the three codes

@@ -12,10 +12,9 @@ use Rattle.xor.proofs.Cases.{by-equal, and-left, and-right, and-both}
 use Rattle.codes.specs.declared.Shape.{Shape}
 use Rattle.codes.specs.Shape.{rows, columns, cells, equations, WellFormed}
 use Rattle.codes.specs.Equations.{equation, hcodeRow, hcodeAntiDiagonal}
-use Rattle.codes.proofs.Shapes.{columns-other, equations-other}
 use Rattle.codes.proofs.Residues.{there-and-back}
-use Rattle.codes.proofs.Lines.{hcode-rows, hcode-row-is, hcode-anti-is}
-use Rattle.codes.proofs.Positions.{families}
+use Rattle.codes.proofs.Lines.{hcode-rows, hcode-columns, hcode-row-is}
+use Rattle.codes.proofs.Positions.{families, hcode-n, hcode-second-is}
 use Rattle.codes.proofs.Paths.{shift-once, shift-from, shift-on, along-path}
 use Rattle.codes.proofs.Columns.{Meets, OnTwo, entry, entry-out, meets, balanced, all-zero}
 
@@ -45,12 +44,12 @@ module _ (s : Shape) (w : WellFormed s) (is-hcode : s .code ≡ 2) where
   height = hcode-rows s w is-hcode
 
   width : s .p + 1 ≡ columns s
-  width = columns-other s w (λ e. omega arith)
+  width = hcode-columns s w is-hcode
 
   -- ---- rows
 
   row-number : (r : ℕ) → r < s .p - 1 → r < equations s
-  row-number r l = omega (arith, equations-other s w (λ e. omega arith))
+  row-number r l = omega (arith, hcode-n s w is-hcode)
 
   -- what the test of row r says of a cell (i, j)
   module _ (r i j : ℕ) (t : hcodeRow (s .p) r .sums i j ≡ true) where
@@ -83,13 +82,7 @@ module _ (s : Shape) (w : WellFormed s) (is-hcode : s .code ≡ 2) where
   -- ---- anti-diagonals
 
   anti-number : (r : ℕ) → r < s .p - 1 → s .p - 1 + r < equations s
-  anti-number r l = omega (arith, equations-other s w (λ e. omega arith))
-
-  anti-is : (r : ℕ) → equation s (s .p - 1 + r) ≡ hcodeAntiDiagonal (s .p) r
-  anti-is r = hcode-anti-is s w is-hcode (s .p - 1 + r) (omega arith) ∙ ap (hcodeAntiDiagonal (s .p)) same
-    where
-      same : s .p - 1 + r - (s .p - 1) ≡ r
-      same = omega arith
+  anti-number r l = omega (arith, hcode-n s w is-hcode)
 
   -- what the test of anti-diagonal r says of a cell (i, j)
   module _ (r i j : ℕ) (t : hcodeAntiDiagonal (s .p) r .sums i j ≡ true) where
@@ -129,7 +122,7 @@ module _ (s : Shape) (w : WellFormed s) (is-hcode : s .code ≡ 2) where
       parity-here : k ≡ s .p - 1 → Meets s (s .p - 1 + r) j (place (s .p) j k)
       parity-here z =
           subst (Meets s (s .p - 1 + r) j) (sym (place-parity (s .p) j k real z ∙ before))
-          (meets s w (s .p - 1 + r) (hcodeAntiDiagonal (s .p) r) (anti-is r) (omega (arith, height)) j r (λ l. inl (refl, own)) (λ q. refl) (λ i l t. absurd (anti-not r i j t own)))
+          (meets s w (s .p - 1 + r) (hcodeAntiDiagonal (s .p) r) (hcode-second-is s w is-hcode r) (omega (arith, height)) j r (λ l. inl (refl, own)) (λ q. refl) (λ i l t. absurd (anti-not r i j t own)))
         where
           own : j ≡ r + 1
           own = sym e ∙ ap (λ (n : ℕ). (n + (r + 2)) % s .p) z ∙ top
@@ -145,7 +138,7 @@ module _ (s : Shape) (w : WellFormed s) (is-hcode : s .code ≡ 2) where
       parity-elsewhere : k ≢ s .p - 1 → Meets s (s .p - 1 + r) j (place (s .p) j k)
       parity-elsewhere n =
           subst (Meets s (s .p - 1 + r) j) (sym (place-row (s .p) j k real n))
-          (meets s w (s .p - 1 + r) (hcodeAntiDiagonal (s .p) r) (anti-is r) (omega (arith, height)) j k
+          (meets s w (s .p - 1 + r) (hcodeAntiDiagonal (s .p) r) (hcode-second-is s w is-hcode r) (omega (arith, height)) j k
           (λ l. inr (and-both (lt-ltb j (s .p) lj) (and-both (ap not (ne-eqb j (r + 1) other)) (eq-eqb k ((s .p - 2 - r + j) % s .p) (sym row-there)))))
           (λ q. absurd (other q)) (λ i l t. anti-row r i j t ∙ row-there))
         where
@@ -154,7 +147,7 @@ module _ (s : Shape) (w : WellFormed s) (is-hcode : s .code ≡ 2) where
 
   anti-ends : (r : ℕ) → r < s .p - 1 → Meets s (s .p - 1 + r) (s .p) (s .p)
   anti-ends r lr =
-      meets s w (s .p - 1 + r) (hcodeAntiDiagonal (s .p) r) (anti-is r) (omega (arith, height)) (s .p) (s .p)
+      meets s w (s .p - 1 + r) (hcodeAntiDiagonal (s .p) r) (hcode-second-is s w is-hcode r) (omega (arith, height)) (s .p) (s .p)
       (λ l. absurd (omega (arith, height))) (λ e. absurd (omega arith)) (λ i l t. let small = anti-below r i (s .p) t in absurd (omega arith))
 
   pub hcode-meets : (q j : ℕ) → q < equations s → j < columns s → (r : ℕ) × Meets s q j r
@@ -163,7 +156,7 @@ module _ (s : Shape) (w : WellFormed s) (is-hcode : s .code ≡ 2) where
       (λ r l. by-equal j (s .p) (λ e. (r, subst (λ (x : ℕ). Meets s r x r) (sym e) (row-ends r l))) (λ n. (place (s .p) j r, row-meets r j l (omega (arith, width)))))
       (λ r l. by-equal j (s .p) (λ e. (s .p, subst (λ (x : ℕ). Meets s (s .p - 1 + r) x (s .p)) (sym e) (anti-ends r l)))
       (λ n. let at = shift-from (s .p) (r + 2) j (omega (arith, width)) in (place (s .p) j (at .0), anti-meets r j (at .0) l (omega (arith, width)) (at .1) (at .2))))
-      q (omega (arith, equations-other s w (λ e. omega arith)))
+      q (omega (arith, hcode-n s w is-hcode))
 
   -- the anti-diagonal that passes column j in place k
   anti-through : (j k : ℕ) → j < s .p → k < s .p → (k + 1) % s .p ≢ j → (r : ℕ) × (r < s .p - 1) × ((k + (r + 2)) % s .p ≡ j)

@@ -11,10 +11,10 @@ use borrow.Author.Tests.{lt-ltb, eq-eqb, ltb-true, eqb-true}
 use Rattle.xor.proofs.Cases.{by-equal, by-less, and-left, and-right, and-both}
 use Rattle.codes.specs.declared.Shape.{Shape}
 use Rattle.codes.specs.Shape.{rows, columns, cells, equations, WellFormed}
-use Rattle.codes.specs.Equations.{equation, rdpRow, rdpDiagonal}
-use Rattle.codes.proofs.Shapes.{low, columns-other, equations-other}
-use Rattle.codes.proofs.Lines.{rdp-rows, rdp-row-is, rdp-diagonal-is}
-use Rattle.codes.proofs.Positions.{families}
+use Rattle.codes.specs.Equations.{rdpRow, rdpDiagonal}
+use Rattle.codes.proofs.Shapes.{low}
+use Rattle.codes.proofs.Lines.{rdp-rows, rdp-columns, rdp-row-is}
+use Rattle.codes.proofs.Positions.{families, rdp-n, rdp-second-is}
 use Rattle.codes.proofs.Paths.{shift-once, shift-from, along-path}
 use Rattle.codes.proofs.Columns.{Meets, OnTwo, entry, entry-out, meets, balanced, all-zero}
 
@@ -23,12 +23,12 @@ module _ (s : Shape) (w : WellFormed s) (is-rdp : s .code ≡ 1) where
   height = rdp-rows s w is-rdp
 
   width : s .p + 1 ≡ columns s
-  width = columns-other s w (λ e. omega arith)
+  width = rdp-columns s w is-rdp
 
   -- ---- where the equations meet the columns
 
   row-number : (r : ℕ) → r < s .p - 1 → r < equations s
-  row-number r l = omega (arith, equations-other s w (λ e. omega arith))
+  row-number r l = omega (arith, rdp-n s w is-rdp)
 
   -- equation r has the cell in row r of every column but p
   row-meets : (r j : ℕ) → r < s .p - 1 → j < s .p → Meets s r j r
@@ -45,18 +45,12 @@ module _ (s : Shape) (w : WellFormed s) (is-rdp : s .code ≡ 1) where
       (λ i l t. let small = ltb-true (s .p) (s .p - 1) (and-right (eqb i r) (ltb (s .p) (s .p - 1)) t) in absurd (omega arith))
 
   diagonal-number : (d : ℕ) → d < s .p - 1 → s .p - 1 + d < equations s
-  diagonal-number d l = omega (arith, equations-other s w (λ e. omega arith))
-
-  diagonal-is : (d : ℕ) → equation s (s .p - 1 + d) ≡ rdpDiagonal (s .p) d
-  diagonal-is d = rdp-diagonal-is s w is-rdp (s .p - 1 + d) (omega arith) ∙ ap (rdpDiagonal (s .p)) same
-    where
-      same : s .p - 1 + d - (s .p - 1) ≡ d
-      same = omega arith
+  diagonal-number d l = omega (arith, rdp-n s w is-rdp)
 
   -- diagonal d has the cell in row r of column j where r + j is d mod p, and the cell in row d of column p
   diagonal-meets : (d j r : ℕ) → d < s .p - 1 → j < s .p → r < s .p → (r + j) % s .p ≡ d → Meets s (s .p - 1 + d) j r
   diagonal-meets d j r ld lj lr e =
-      meets s w (s .p - 1 + d) (rdpDiagonal (s .p) d) (diagonal-is d) (omega (arith, height)) j r
+      meets s w (s .p - 1 + d) (rdpDiagonal (s .p) d) (rdp-second-is s w is-rdp d) (omega (arith, height)) j r
       (λ l. inr (and-both (lt-ltb j (s .p) lj) (and-both (lt-ltb r (s .p - 1) (omega (arith, height))) (eq-eqb ((r + j) % s .p) d e))))
       (λ q. absurd (omega arith))
       (λ i l t. shift-once (s .p) i r j (omega (arith, height)) lr (eqb-true ((i + j) % s .p) d
@@ -64,7 +58,7 @@ module _ (s : Shape) (w : WellFormed s) (is-rdp : s .code ≡ 1) where
 
   diagonal-ends : (d : ℕ) → d < s .p - 1 → Meets s (s .p - 1 + d) (s .p) d
   diagonal-ends d ld =
-      meets s w (s .p - 1 + d) (rdpDiagonal (s .p) d) (diagonal-is d) (omega (arith, height)) (s .p) d
+      meets s w (s .p - 1 + d) (rdpDiagonal (s .p) d) (rdp-second-is s w is-rdp d) (omega (arith, height)) (s .p) d
       (λ l. inl (refl, refl)) (λ e. refl)
       (λ i l t. let small = ltb-true (s .p) (s .p) (and-left (ltb (s .p) (s .p)) (ltb i (s .p - 1) && eqb ((i + s .p) % s .p) d) t) in absurd (omega arith))
 
@@ -74,7 +68,7 @@ module _ (s : Shape) (w : WellFormed s) (is-rdp : s .code ≡ 1) where
       (λ r l. by-equal j (s .p) (λ e. (rows s, subst (λ (x : ℕ). Meets s r x (rows s)) (sym e) (row-ends r l))) (λ n. (r, row-meets r j l (omega (arith, width)))))
       (λ d l. by-equal j (s .p) (λ e. (d, subst (λ (x : ℕ). Meets s (s .p - 1 + d) x d) (sym e) (diagonal-ends d l)))
       (λ n. let at = shift-from (s .p) j d (omega arith) in (at .0, diagonal-meets d j (at .0) l (omega (arith, width)) (at .1) (at .2))))
-      q (omega (arith, equations-other s w (λ e. omega arith)))
+      q (omega (arith, rdp-n s w is-rdp))
 
   -- ---- two columns below p
 

@@ -10,10 +10,10 @@ use borrow.Author.Tests.{lt-ltb, eq-eqb, ne-eqb, ltb-true, eqb-true}
 use Rattle.xor.proofs.Cases.{by-equal, and-left, and-right, and-both}
 use Rattle.codes.specs.declared.Shape.{Shape}
 use Rattle.codes.specs.Shape.{rows, columns, cells, equations, WellFormed}
-use Rattle.codes.specs.Equations.{Equation, equation, xcodeSecond}
+use Rattle.codes.specs.Equations.{Equation, equation}
 use Rattle.codes.proofs.Shapes.{low, rows-third, columns-third, equations-third}
-use Rattle.codes.proofs.Lines.{xcode-first-is, xcode-second-is}
-use Rattle.codes.proofs.Positions.{families}
+use Rattle.codes.proofs.Lines.{xcode-first-is}
+use Rattle.codes.proofs.Positions.{families, xcode-family-is}
 use Rattle.codes.proofs.Paths.{shift-once, shift-from, shift-on, along-path}
 use Rattle.codes.proofs.Columns.{Meets, OnTwo, entry, entry-out, meets, balanced, all-zero}
 
@@ -105,18 +105,12 @@ module _ (s : Shape) (w : WellFormed s) (is-xcode : s .code ≡ 3) where
   -- line c of the second family passes column j in place k where k + j + 2 is c mod p
   second-meets : (c j k : ℕ) → c < s .p → j < s .p → k < s .p → (k + (j + 2)) % s .p ≡ c → Meets s (s .p + c) j (place (s .p) (s .p - 1) k)
   second-meets c j k lc lj lk e =
-      line-meets (s .p + c) (s .p - 1) c j k (λ i. (s .p + c - i - 2) % s .p) is (omega arith) lk
+      line-meets (s .p + c) (s .p - 1) c j k (λ i. (s .p + c - i - 2) % s .p) (xcode-family-is s w is-xcode c) (omega arith) lk
       (λ z. shift-once (s .p) k (s .p - 2) (j + 2) lk (omega arith) (e ∙ sym z ∙ sym (around j lj)))
       (λ z. sym (around j lj) ∙ ap (λ (n : ℕ). (n + (j + 2)) % s .p) (sym z) ∙ e)
       (λ i l z. shift-once (s .p) i k (j + 2) (omega arith) lk (ap (λ (n : ℕ). n % s .p) (turn i) ∙ ap (λ (n : ℕ). (n + (i + 2)) % s .p) z ∙ comes i l ∙ sym e))
       (λ l. shift-once (s .p) j ((s .p + c - k - 2) % s .p) (k + 2) lj (mod-lt (s .p + c - k - 2) (omega arith)) (ap (λ (n : ℕ). n % s .p) (sym (turn k)) ∙ e ∙ sym (comes k l)))
     where
-      is : equation s (s .p + c) ≡ xcodeSecond (s .p) c
-      is = xcode-second-is s w is-xcode (s .p + c) (omega arith) ∙ ap (xcodeSecond (s .p)) same
-        where
-          same : s .p + c - s .p ≡ c
-          same = omega arith
-
       turn : (i : ℕ) → i + (j + 2) ≡ j + (i + 2)
       turn i = omega arith
 

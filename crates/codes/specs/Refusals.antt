@@ -36,14 +36,17 @@ refusal faults = firstOf order faults
 abbrev pub outside : Shape → ℕ → ℕ → Bool
 outside s row column = not (ltb row (rows s) && ltb column (columns s))
 
--- the refusals of every call on a lent stripe of so many bytes
-unfoldable pub stripeFaults : Shape → ℕ → List Fault
-stripeFaults s bytes =
+-- the refusals of every call that is told the shape of a stripe
+unfoldable pub shapeFaults : Shape → List Fault
+shapeFaults s =
     record { number = 1; applies = not (eqb (s .code) 1 || eqb (s .code) 2 || eqb (s .code) 3) }
     ∷ record { number = 2; applies = not (listed (s .p)) }
     ∷ record { number = 4; applies = not (leb 1 (s .cell) && leb (s .cell) 4096) }
-    ∷ record { number = 5; applies = not (eqb bytes (stripeLength s)) }
     ∷ []
+
+-- the refusals of every call on a lent stripe of so many bytes
+unfoldable pub stripeFaults : Shape → ℕ → List Fault
+stripeFaults s bytes = record { number = 5; applies = not (eqb bytes (stripeLength s)) } ∷ shapeFaults s
 
 -- the refusals of a small write of so many new bytes to a row and a column, besides those of the stripe
 unfoldable pub writeFaults : Shape → ℕ → ℕ → ℕ → ℕ → List Fault

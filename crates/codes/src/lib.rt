@@ -6,7 +6,7 @@ ghost use lib.ListN.{length, getD};
 ghost use Rattle.xor.specs.Runs.{Says};
 ghost use Rattle.codes.specs.Shape.{listed, rows, columns, cells, equations, cellNumber, stripeLength, WellFormed};
 ghost use Rattle.codes.specs.Encoded.{parityCell, isParity};
-ghost use Rattle.codes.specs.Refusals.{refusal, stripeFaults, writeFaults, cellsFaults, columnsFaults};
+ghost use Rattle.codes.specs.Refusals.{refusal, shapeFaults, stripeFaults, writeFaults, cellsFaults, columnsFaults};
 ghost use Rattle.codes.specs.Lines.{Lies, Walks, Placed, Found, Holding};
 ghost use Rattle.codes.specs.Depends.{DataCell, DependOn};
 ghost use Rattle.codes.specs.Holders.{ParityCell, HeldBy};
@@ -113,9 +113,9 @@ pub fn stripe_bytes(shape: Shape) -> usize
     cell_count(shape) * shape.cell
 }
 
-// The refusal of a call on a lent stripe of so many bytes: the lowest number that applies, or 0.
-pub fn stripe_refusal(shape: Shape, bytes: usize) -> usize
-    ensures { λ r. ⌜ r ≡ refusal (stripeFaults shape bytes) ⌝ }
+// The refusal of a shape by itself: 1, 2 or 4, the lowest that applies, or 0.
+pub fn shape_refusal(shape: Shape) -> usize
+    ensures { λ r. ⌜ r ≡ refusal (shapeFaults shape) ⌝ }
 {
     if shape.code == 0 {
         return 1;
@@ -131,6 +131,17 @@ pub fn stripe_refusal(shape: Shape, bytes: usize) -> usize
     }
     if 4096 < shape.cell {
         return 4;
+    }
+    0
+}
+
+// The refusal of a call on a lent stripe of so many bytes: the lowest number that applies, or 0.
+pub fn stripe_refusal(shape: Shape, bytes: usize) -> usize
+    ensures { λ r. ⌜ r ≡ refusal (stripeFaults shape bytes) ⌝ }
+{
+    let refusal = shape_refusal(shape);
+    if refusal != 0 {
+        return refusal;
     }
     if bytes != stripe_bytes(shape) {
         return 5;

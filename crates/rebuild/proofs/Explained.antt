@@ -1,8 +1,8 @@
 -- Which columns explain values: exactly those without which nothing is left of the totals.
-use mathlib.Core.Path.{_≡_, refl, sym, ap, ap₂, _∙_, subst}
+use mathlib.Core.Path.{_≡_, sym, ap, ap₂, _∙_, subst}
 use mathlib.Core.Logic.{_≢_}
 use mathlib.Core.List.{List}
-use mathlib.Core.Bool.{Bool, true, false, cond}
+use mathlib.Core.Bool.{Bool, cond}
 use Prim.Native.Nat.{ℕ, _+_, _/_, _%_, _<_}
 use native.Mathlib.Nat.{mod-lt}
 use native.Mathlib.Omega.{arith}
@@ -12,7 +12,7 @@ use borrow.Author.Tests.{eq-eqb, ne-eqb, eqb-true}
 use Rattle.xor.specs.Xor.{_⊕_, xors}
 use Rattle.xor.proofs.Cases.{by-equal, not-passed}
 use Rattle.xor.proofs.Algebra.{⊕-zero, ⊕-self, equal-⊕}
-use Rattle.xor.proofs.Sums.{xors-same, xors-one, Lists, xors-listed}
+use Rattle.xor.proofs.Sums.{xors-same, nothing, xors-one, Lists, xors-listed}
 use Rattle.codes.specs.declared.Shape.{Shape}
 use Rattle.codes.specs.Shape.{rows, columns, cells, equations, cellNumber, WellFormed}
 use Rattle.codes.specs.Encoded.{total}
@@ -35,10 +35,6 @@ columnSum s q c v = xors (rows s) (λ i. cond (holds s q (cellNumber s i c)) (v 
 -- no column below c explains values with these totals
 abbrev pub NoneBelow : Shape → List ℕ → ℕ → Type 0
 NoneBelow s totals c = (f : ℕ → ℕ) → TotalsOf s f totals → (d : ℕ) → d < c → Explains s f d → ⊥
-
-nothing : (b : Bool) (x : ℕ) → x ≡ 0 → cond b x 0 ≡ 0
-nothing true x e = e
-nothing false x e = refl
 
 module _ (s : Shape) (w : WellFormed s) (c : ℕ) (lc : c < columns s) where
   -- ---- sums over one column
@@ -75,7 +71,7 @@ module _ (s : Shape) (w : WellFormed s) (c : ℕ) (lc : c < columns s) where
 
   module _ (f : ℕ → ℕ) (totals rest : List ℕ) (t : TotalsOf s f totals) (h : Without s totals c (rows s) rest) where
     -- nothing: the column explains the values
-    pub explains-by : ((q : ℕ) → q < equations s → getD rest q 0 ≡ 0) → Explains s f c
+    explains-by : ((q : ℕ) → q < equations s → getD rest q 0 ≡ 0) → Explains s f c
     explains-by zero = record {
       inside = lc;
       mended = plus f y;
@@ -96,7 +92,7 @@ module _ (s : Shape) (w : WellFormed s) (c : ℕ) (lc : c < columns s) where
         at i l = ap₂ (λ (b : Bool) (j : ℕ). cond b (h .value j) 0) (eq-eqb (cellNumber s i c / rows s) c (column-is s w i c l)) (row-is s w i c l)
 
     -- the column explains the values: nothing is left
-    pub explained-zero : Explains s f c → (q : ℕ) → q < equations s → getD rest q 0 ≡ 0
+    explained-zero : Explains s f c → (q : ℕ) → q < equations s → getD rest q 0 ≡ 0
     explained-zero e q lq =
         h .left q lq ∙ ap₂ _⊕_ (total-is q lq) (column-same q (h .value) (λ i. y (cellNumber s i c)) value-is) ∙ ⊕-self (columnSum s q c (λ i. y (cellNumber s i c)))
       where

@@ -79,7 +79,7 @@ differ-at s w a b la lb n = by-test (any (s .cell) at) found none
         (not-false (eqb (byteAt s a c t) (byteAt s b c t)) (any-none (cells s) (differs t) (any-none (s .cell) at p t lt) c lc)))))
 
 -- the same code and p, with cells of n bytes
-abbrev pub resized : Shape → ℕ → Shape
+abbrev resized : Shape → ℕ → Shape
 resized s n = record { code = s .code; p = s .p; cell = n }
 
 module _ (s : Shape) (n : ℕ) where

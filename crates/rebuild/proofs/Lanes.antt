@@ -80,7 +80,7 @@ module _ (lanes : List ℕ) (set count : ℕ) (places : List ℕ) (h : Members s
   lanes-inside n long few e =
       first-inside places count (omega (arith, h .few, h .long)) long n (λ k l. let found = h .member k l in omega (arith, found .1, found .3))
 
-  pub lane-sum : (i : ℕ) → sumAt lanes (take count places) i ≡ laneSum lanes set i
+  lane-sum : (i : ℕ) → sumAt lanes (take count places) i ≡ laneSum lanes set i
   unfolding laneSum
   lane-sum i = first-sum places count (omega (arith, h .few, h .long)) lanes i ∙ h .sum (λ p. getD lanes (p + i) 0)
 
@@ -105,7 +105,7 @@ xors-cut (suc n) m f l z =
 
 module _ (s : Shape) (w : WellFormed s) (stripe : List ℕ) (set at n : ℕ) (lanes : List ℕ) (h : Totals s stripe set at n lanes) where
   -- a set of equations whose totals are in their lanes
-  pub totals-sum : (m : ℕ) → ((r : ℕ) → bit r m ≡ true → bit r set ≡ true) → ((r : ℕ) → bit r m ≡ true → r < equations s) → (i : ℕ) → i < n
+  totals-sum : (m : ℕ) → ((r : ℕ) → bit r m ≡ true → bit r set ≡ true) → ((r : ℕ) → bit r m ≡ true → r < equations s) → (i : ℕ) → i < n
       → laneSum lanes m i ≡ summed s m (bytesAt s stripe (at + i))
   unfolding laneSum summed
   totals-sum m within below i l =

@@ -9,7 +9,7 @@ use lib.Dec.{eqb}
 use lib.ListN.{length, getD, List·getD-eq-default}
 use lib.Pow.{pow-pos}
 use borrow.Author.Tests.{lt-ltb, le-leb}
-use Rattle.xor.specs.Xor.{_⊕_, xors}
+use Rattle.xor.specs.Xor.{xors}
 use Rattle.xor.specs.Runs.{Says}
 use Rattle.xor.proofs.Cases.{by-test, by-equal, by-less}
 use Rattle.xor.proofs.Algebra.{⊕-bits}

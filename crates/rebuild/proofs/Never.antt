@@ -10,7 +10,7 @@ use borrow.Author.Tests.{ne-eqb}
 use Rattle.xor.proofs.Cases.{by-test, by-equal, clash}
 use Rattle.codes.specs.declared.Shape.{Shape}
 use Rattle.codes.specs.Shape.{rows, columns, WellFormed}
-use Rattle.codes.specs.Refusals.{Fault, order, applies, firstOf, refusal, stripeFaults, columnsFaults}
+use Rattle.codes.specs.Refusals.{Fault, order, applies, firstOf, refusal, shapeFaults, stripeFaults, columnsFaults}
 use Rattle.codes.proofs.Refused.{columns-accepted}
 use Rattle.codes.proofs.Parity.{same-bytes}
 use Rattle.codes.proofs.TwoColumns.{two-columns-determined}
@@ -38,7 +38,7 @@ given-applies (m ∷ numbers) faults n e k =
 
 -- no number that is wrong makes it 11
 no-eleven : (s : Shape) (bytes a b : ℕ) → refusal (columnsFaults s bytes a b) ≢ 11
-unfolding refusal columnsFaults stripeFaults applies
+unfolding refusal columnsFaults stripeFaults shapeFaults applies
 no-eleven s bytes a b e = clash (given-applies order (columnsFaults s bytes a b) 11 e (λ z. omega arith)) refl
 
 -- a rebuild of columns never answers 11

@@ -59,7 +59,7 @@ module _ (s : Shape) (lost : ℕ → Bool) (old old′ : List ℕ) (agree : Agre
                 restored-one s (formed e) lost (first .0) old x y (first .1) (restores-also s lost old′ old y (agree-sym s lost old old′ agree) (second .1)),
           )
 
-pub rebuilds-one : (s : Shape) (lost : ℕ → Bool) (wrong : ℕ) (old : List ℕ) → (wrong ≡ 0 → WellFormed s) → (a b : ℕ) (x y : List ℕ)
+rebuilds-one : (s : Shape) (lost : ℕ → Bool) (wrong : ℕ) (old : List ℕ) → (wrong ≡ 0 → WellFormed s) → (a b : ℕ) (x y : List ℕ)
     → Rebuilds s lost wrong old a x → Rebuilds s lost wrong old b y → (a ≡ b) × (x ≡ y)
 rebuilds-one s lost wrong old formed a b x y ha hb =
     let alike = rebuilds-alike s lost old old (record { same = λ c l e t lt. refl }) a b x y wrong formed ha hb in

@@ -1,6 +1,6 @@
 -- From what the program does to what a rebuild promises: the stripe at exit is the encoded stripe that agrees with the survivors, or there is none.
 use mathlib.Core.Path.{_≡_, refl, sym, ap, ap₂, _∙_, subst}
-use mathlib.Core.Logic.{_≢_, _⊎_, inl, inr, ⊎-elim}
+use mathlib.Core.Logic.{_≢_, inl, inr, ⊎-elim}
 use mathlib.Core.List.{List}
 use mathlib.Core.Bool.{Bool, true, false, cond, not, _&&_}
 use Prim.Native.Nat.{ℕ, _<_}
@@ -42,7 +42,7 @@ module _ (s : Shape) (list sets : List ℕ) (u : ℕ) (checks : List ℕ) (v : �
 
 -- the lost cells are determined: encoded stripes with the same survivors are equal
 module _ (s : Shape) (w : WellFormed s) (lost : ℕ → Bool) (u : ℕ) (list sets : List ℕ) (v : ℕ) (checks : List ℕ) (solver : Solver s lost u list sets v checks) where
-  pub determined : Undetermined s lost → ⊥
+  determined : Undetermined s lost → ⊥
   determined h =
       h .differ (same-bytes s w (h .one) (h .other) (h .oneIs .long) (h .otherIs .long)
       (λ c l t lt. solver .unique (bytesAt s (h .one) t) (bytesAt s (h .other) t) (λ q lq. h .oneIs .encoded .holds q lq t lt) (λ q lq. h .otherIs .encoded .holds q lq t lt)

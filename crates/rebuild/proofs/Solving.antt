@@ -107,7 +107,7 @@ module _ (s : Shape) (w : WellFormed s) (lost : ℕ → Bool) (u : ℕ) (list : 
             ∙ ap (λ (b : Bool). cond b (summed s (getD sets k 0) f) 0) (eq-eqb (getD list k 0) c q) ∙ set-is f k l ∙ ap (λ (d : ℕ). verdict.summed E (cells s) (holds s) state f (state .chosen d)) q)
             ∙ sym (determined .valueBySums f c lc e) ∙ sym (rw e refl)
 
-    pub solver : Solver s lost u list sets v checks
+    solver : Solver s lost u list sets v checks
     solver = record {
       listed = lists;
       longCells = long;

@@ -1,28 +1,20 @@
 -- How many additions the method makes: for each lost cell at most one less than there are equations.
-use mathlib.Core.Path.{_≡_, refl, sym, ap, _∙_}
-use mathlib.Core.Bool.{Bool, false, cond}
-use Prim.Native.Nat.{ℕ, zero, suc, _+_, _-_, _*_, _≤_, _<_}
+use mathlib.Core.Path.{refl}
+use mathlib.Core.Bool.{Bool, cond}
+use Prim.Native.Nat.{ℕ, zero, suc, _+_, _-_, _*_, _≤_}
 use native.Mathlib.Omega.{arith}
 use lib.Dec.{ltb}
 use borrow.Author.Tests.{eq-eqb, ltb-true}
 use Rattle.xor.specs.Sets.{count}
-use Rattle.xor.proofs.Cases.{by-test, by-equal}
-use Rattle.xor.proofs.Sets.{count-most}
+use Rattle.xor.proofs.Cases.{by-test}
+use Rattle.xor.proofs.Sets.{count-fails}
 use Rattle.solve.specs.Method.{State, free, joins, Outcome, passed, stopped, turn, next, run, lowest, stateOf}
-
--- one of the numbers fails the test
-pub count-but-one : (n : ℕ) (test : ℕ → Bool) (q : ℕ) → q < n → test q ≡ false → count n test ≤ n - 1
-unfolding count
-count-but-one zero test q l e = absurd (omega arith)
-count-but-one (suc n) test q l e =
-    by-equal q n (λ same. rw (ap test (sym same) ∙ e) (omega (arith, count-most n test)))
-    (λ other. by-test (test n) (λ p. rw p (let m = count-but-one n test q (omega arith) e in omega arith)) (λ p. rw p (let m = count-but-one n test q (omega arith) e in omega arith)))
 
 turn-additions : (E : ℕ) (s : State) (c : ℕ) → stateOf (turn E s c) .additions ≤ s .additions + (E - 1)
 turn-additions E s c =
     let q = lowest E (free s c) in
     by-test (ltb q E)
-    (λ t. rw t (let few = count-but-one E (joins s c q) q (ltb-true q E t) (rw (eq-eqb q q refl) refl) in omega arith)) (λ t. rw t (omega arith))
+    (λ t. rw t (let few = count-fails E (joins s c q) q (ltb-true q E t) (rw (eq-eqb q q refl) refl) in omega arith)) (λ t. rw t (omega arith))
 
 next-additions : (E : ℕ) (lost : ℕ → Bool) (o : Outcome) (c : ℕ) → stateOf (next E lost o c) .additions ≤ stateOf o .additions + cond (lost c) 1 0 * (E - 1)
 next-additions E lost (passed s) c = by-test (lost c) (λ e. rw e (let few = turn-additions E s c in omega arith)) (λ e. rw e (omega arith))

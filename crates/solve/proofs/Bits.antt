@@ -1,23 +1,23 @@
--- Laws of the bits of a number: halving, the code's `^` and `&`, and its count of trailing zeros.
-use mathlib.Core.Path.{_≡_, refl, sym, ap, _∙_}
+-- Laws of the bits of a number: halving, the code's `^`, `&` and `|`, and its counts of ones and of trailing zeros.
+use mathlib.Core.Path.{_≡_, refl, sym, ap, ap₂, _∙_}
 use mathlib.Core.Logic.{_≢_}
-use mathlib.Core.Bool.{false, _&&_, _||_, xor}
-use Prim.Native.Nat.{ℕ, zero, suc, _-_, _/_, _%_, _^_, _<_}
-use native.Mathlib.Nat.{mod-lt, zero-lt-suc, pow-suc, div-one, mul-div-cancel, mul-mod-left, div-lt-iff-lt-mul}
+use mathlib.Core.Bool.{Bool, false, cond, _&&_, _||_, xor}
+use Prim.Native.Nat.{ℕ, zero, suc, _+_, _-_, _/_, _%_, _^_, _<_}
+use native.Mathlib.Nat.{zero-lt-suc, pow-suc, div-one, mul-div-cancel, mul-mod-left, div-lt-iff-lt-mul, div-eq-of-lt}
 use native.Mathlib.Numerals.{one-add}
 use native.Mathlib.Omega.{arith}
 use lib.Arith.{lt-one}
 use lib.Bits.{bitXor, bitAnd, bitOr, xor-shr, xor-mod, and-shr, and-mod, or-shr, or-mod}
-use lib.Count.{trailingZeros, under}
+use lib.Count.{ones, ones-step, trailingZeros, under}
 use lib.Dec.{eqb, ltb, eqb·suc-suc, leb·suc-suc}
 use lib.Pow.{pow-pos, shr-shr}
 use borrow.Author.Tests.{eq-eqb, ne-eqb, lt-ltb, le-ltb}
-use Rattle.xor.proofs.Cases.{by-equal, clash}
+use Rattle.xor.specs.Sets.{count}
+use Rattle.xor.proofs.Cases.{by-equal}
+use Rattle.xor.proofs.Algebra.{digit}
+use Rattle.xor.proofs.Sets.{count-same, count-first}
 use Rattle.solve.specs.Bit.{bit, IsLowest}
 use Rattle.solve.proofs.Lowest.{lowest-here, lowest-above, lowest-alike}
-
-digit : (m : ℕ) → m % 2 < 2
-digit m = mod-lt m (zero-lt-suc 1)
 
 -- ---- the lowest bit, and the others
 
@@ -28,6 +28,40 @@ bit-first m = ap (λ (x : ℕ). eqb (x % 2) 1) (div-one m)
 pub bit-next : (k m : ℕ) → bit (suc k) m ≡ bit k (m / 2)
 unfolding bit
 bit-next k m = ap (λ (x : ℕ). eqb (x % 2) 1) (ap (λ (x : ℕ). m / 2 ^ x) (sym (one-add k)) ∙ sym (shr-shr m 1 k))
+
+half : (k m : ℕ) → m < 2 ^ suc k → m / 2 < 2 ^ k
+half k m l = div-lt-iff-lt-mul (zero-lt-suc 1) .1 (rw pow-suc at l)
+
+-- no bit from k on
+pub bit-above : (k m : ℕ) → m < 2 ^ k → bit k m ≡ false
+unfolding bit
+bit-above k m l = ap (λ (x : ℕ). eqb (x % 2) 1) (div-eq-of-lt l)
+
+-- a digit is 1 or 0 as it is set or not
+digit-one : (d : ℕ) → d < 2 → cond (eqb d 1) 1 0 ≡ d
+digit-one zero l = refl
+digit-one (suc zero) l = refl
+digit-one (suc (suc d)) l = absurd (omega arith)
+
+lowest-digit : (m : ℕ) → cond (bit 0 m) 1 0 ≡ m % 2
+lowest-digit m = ap (λ (b : Bool). cond b 1 0) (bit-first m) ∙ digit-one (m % 2) (digit m)
+
+-- a number below a power of two is known by its bits
+pub same-bits : (k a b : ℕ) → a < 2 ^ k → b < 2 ^ k → ((q : ℕ) → q < k → bit q a ≡ bit q b) → a ≡ b
+same-bits zero a b la lb h = lt-one la ∙ sym (lt-one lb)
+same-bits (suc k) a b la lb h =
+    let halves : a / 2 ≡ b / 2 = same-bits k (a / 2) (b / 2) (half k a la) (half k b lb) (λ q lq. sym (bit-next q a) ∙ h (suc q) (omega arith) ∙ bit-next q b) in
+    let ends : a % 2 ≡ b % 2 = sym (lowest-digit a) ∙ ap (λ (x : Bool). cond x 1 0) (h 0 (omega arith)) ∙ lowest-digit b in
+    omega arith
+
+-- the code's count of ones is the number of set bits
+pub ones-bits : (k m : ℕ) → m < 2 ^ k → ones m ≡ count k (λ q. bit q m)
+unfolding ones count
+ones-bits zero m l = ap ones (lt-one l)
+ones-bits (suc k) m l =
+    ones-step m
+    ∙ ap₂ _+_ (sym (lowest-digit m)) (ones-bits k (m / 2) (half k m l) ∙ count-same k (λ q. bit q (m / 2)) (λ q. bit (suc q) m) (λ q lq. sym (bit-next q m)))
+    ∙ sym (count-first k (λ q. bit q m))
 
 -- ---- the code's operations
 
@@ -77,11 +111,7 @@ bit-zero (suc k) = bit-next k 0 ∙ bit-zero k
 
 -- a set of bits below k with no member
 pub no-bits : (k m : ℕ) → m < 2 ^ k → ((q : ℕ) → q < k → bit q m ≡ false) → m ≡ 0
-no-bits zero m l h = lt-one l
-no-bits (suc k) m l h =
-    let halves : m / 2 ≡ 0 = no-bits k (m / 2) (div-lt-iff-lt-mul (zero-lt-suc 1) .1 (rw pow-suc at l)) (λ q lq. sym (bit-next q m) ∙ h (suc q) (omega arith)) in
-    let even : m % 2 ≢ 1 = λ e. clash (bit-first m ∙ ap (λ (x : ℕ). eqb x 1) e) (h 0 (omega arith)) in
-    omega arith
+no-bits k m l h = same-bits k m 0 l (pow-pos k) (λ q lq. h q lq ∙ sym (bit-zero q))
 
 pub bit-power : (k q : ℕ) → bit k (2 ^ q) ≡ eqb k q
 bit-power zero zero = bit-first 1

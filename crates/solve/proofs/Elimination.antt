@@ -9,12 +9,12 @@ use lib.Dec.{eqb}
 use borrow.Author.Tests.{eq-eqb, ne-eqb}
 use Rattle.xor.proofs.Cases.{by-test, by-equal, clash, and-left, not-passed}
 use Rattle.xor.specs.Sets.{count}
-use Rattle.solve.specs.Solution.{over, Solution}
-use Rattle.solve.specs.Method.{State, Outcome, passed, stopped, run, stateOf}
+use Rattle.solve.specs.Solution.{Solution}
+use Rattle.solve.specs.Method.{State, Outcome, passed, stopped, run}
 use Rattle.solve.specs.Verdict.{rebuilt, Consistent, Determined, Undetermined, Verdict}
 use Rattle.solve.proofs.Over.{over-zero}
 use Rattle.solve.proofs.Invariant.{Invariant}
-use Rattle.solve.proofs.Run.{Closed, Passed, Stopped, Reached, run-reached, run-keeps}
+use Rattle.solve.proofs.Run.{Closed, Passed, Stopped, Reached, run-reached}
 use Rattle.solve.proofs.Few.{passed-few}
 use Rattle.solve.proofs.Solved.{rebuilt-agrees, rebuilt-bits, residue-is, value-by-sums, zero-by-sums, lost-value, one-solution, solution-passes, rebuilt-solves}
 
@@ -28,7 +28,7 @@ single c d = cond (eqb d c) 1 0
 
 -- ---- a cell that is not solved and that no unused equation holds: rebuilt from a 1 in it and 0 in the others, the solved cells are a solution
 module _ (E n : ℕ) (equation : ℕ → ℕ → Bool) (s : State) (i : Invariant E n equation s) (c : ℕ) (unsolved : s .solved c ≡ false) (closed : Closed E s c) where
-  abbrev pub nonzero : ℕ → ℕ
+  abbrev nonzero : ℕ → ℕ
   nonzero = rebuilt E n equation (s .solved) s (single c)
 
   single-passes : Consistent E n equation (s .solved) s (single c)
@@ -39,22 +39,22 @@ module _ (E n : ℕ) (equation : ℕ → ℕ → Bool) (s : State) (i : Invarian
         (λ d ld p. by-equal d c (λ e. clash (ap (s .row q) (sym e) ∙ and-left (s .row q d) (not (s .solved d)) p) (closed .none q l u)) (λ e. rw (ne-eqb d c e) refl));
   }
 
-  pub nonzero-solves : Solution E n equation nonzero
+  nonzero-solves : Solution E n equation nonzero
   nonzero-solves = rebuilt-solves E n equation (s .solved) s i (λ d l. refl) (single c) single-passes
 
-  pub nonzero-bits : (d : ℕ) → d < n → nonzero d < 2
+  nonzero-bits : (d : ℕ) → d < n → nonzero d < 2
   nonzero-bits =
       rebuilt-bits E n equation (s .solved) s 1 (single c) (λ d l e. by-test (eqb d c) (λ p. rw p (omega arith)) (λ p. rw p (omega arith)))
 
-  pub nonzero-here : nonzero c ≡ 1
+  nonzero-here : nonzero c ≡ 1
   nonzero-here = rw (unsolved, eq-eqb c c refl) refl
 
-  pub nonzero-off : (d : ℕ) → d ≢ c → s .solved d ≡ false → nonzero d ≡ 0
+  nonzero-off : (d : ℕ) → d ≢ c → s .solved d ≡ false → nonzero d ≡ 0
   nonzero-off d other e = rw (e, ne-eqb d c other) refl
 
 module _ (E n : ℕ) (equation : ℕ → ℕ → Bool) (lost : ℕ → Bool) where
   -- the method passed all cells
-  pub determined : (s : State) → Passed E n equation lost n s → Determined E n equation lost s
+  determined : (s : State) → Passed E n equation lost n s → Determined E n equation lost s
   determined s h = record {
     unique = one-solution E n equation lost s (h .keeps) same;
     value = lost-value E n equation lost s (h .keeps) same;
@@ -71,7 +71,7 @@ module _ (E n : ℕ) (equation : ℕ → ℕ → Bool) (lost : ℕ → Bool) whe
       same d l = by-test (lost d) (λ e. h .all d l e ∙ sym e) (λ e. not-passed (λ p. clash (h .only d p) e) ∙ sym e)
 
   -- the method stopped
-  pub undetermined : (c : ℕ) (s : State) → c < n → Stopped E n equation lost c s → Undetermined E n equation lost c
+  undetermined : (c : ℕ) (s : State) → c < n → Stopped E n equation lost c s → Undetermined E n equation lost c
   undetermined c s inside h = record {
     inside = inside;
     isLost = h .isLost;
@@ -120,8 +120,3 @@ module _ (E n : ℕ) (equation : ℕ → ℕ → Bool) (lost : ℕ → Bool) whe
       by-outcome : (o : Outcome) → run E equation lost n ≡ o → (c : ℕ) × Undetermined E n equation lost c
       by-outcome (passed s) e = absurd (omega (arith, passed-few E equation lost n s e))
       by-outcome (stopped c s) e = (c, stopped-at c s e)
-
-  -- each equation, as the method leaves it, is the sum of the original ones that it names
-  pub from-right : (f : ℕ → ℕ) (q : ℕ) → q < E
-      → let s = stateOf (run E equation lost n) in over n (s .row q) f ≡ over E (s .from q) (λ r. over n (equation r) f)
-  from-right = run-keeps E n equation lost n (le-refl n) .sums

@@ -8,6 +8,7 @@ use borrow.Author.Tests.{eq-eqb, ne-eqb, eqb-true}
 use Rattle.xor.specs.Xor.{_⊕_}
 use Rattle.xor.proofs.Cases.{by-equal, by-test, clash}
 use Rattle.xor.proofs.Algebra.{⊕-zero}
+use Rattle.xor.proofs.Sums.{nothing}
 use Rattle.solve.specs.Solution.{over, Solution}
 use Rattle.solve.specs.Method.{State, start, addTo, joins, choose}
 use Rattle.solve.proofs.Tests.{add-nothing, add-sweeps}
@@ -42,15 +43,10 @@ start-keeps E n equation = record {
 
 -- ---- a set added to others of its family
 
-pub over-addTo : (n : ℕ) (to : ℕ → Bool) (q : ℕ) (family : ℕ → ℕ → Bool) (r : ℕ) (f : ℕ → ℕ)
+over-addTo : (n : ℕ) (to : ℕ → Bool) (q : ℕ) (family : ℕ → ℕ → Bool) (r : ℕ) (f : ℕ → ℕ)
     → over n (addTo to q family r) f ≡ over n (family r) f ⊕ cond (to r) (over n (family q) f) 0
 over-addTo n to q family r f =
     over-xor n (family r) (λ k. to r && family q k) f ∙ ap (λ (x : ℕ). over n (family r) f ⊕ x) (over-part n (to r) (family q) f)
-
--- zero, or nothing
-none : (b : Bool) (x : ℕ) → x ≡ 0 → cond b x 0 ≡ 0
-none true x e = e
-none false x e = refl
 
 -- ---- the state after equation q is chosen for cell c
 module _ (E : ℕ) (s : State) (c q : ℕ) where
@@ -79,7 +75,7 @@ module _ (E : ℕ) (s : State) (c q : ℕ) where
   used-before r other = rw (ne-eqb r q other) refl
 
   -- q is not added to itself
-  pub not-itself : joins s c q q ≡ false
+  not-itself : joins s c q q ≡ false
   not-itself = rw (eq-eqb q q refl) refl
 
   -- q keeps c, and every other equation that held it loses it
@@ -121,7 +117,7 @@ module _ (E n : ℕ) (equation : ℕ → ℕ → Bool) (s : State) (i : Invarian
   back-after f h = record {
     holds = λ r l.
         sym (⊕-zero (over n (s .row r) f))
-        ∙ ap (λ (x : ℕ). over n (s .row r) f ⊕ x) (sym (none (joins s c q r) (over n (s .row q) f) itself))
+        ∙ ap (λ (x : ℕ). over n (s .row r) f ⊕ x) (sym (nothing (joins s c q r) (over n (s .row q) f) itself))
         ∙ sym (over-addTo n (joins s c q) q (s .row) r f)
         ∙ h .holds r l;
   }

@@ -8,7 +8,6 @@ pub mod Solved
 pub mod Few
 pub mod Elimination
 pub mod Additions
-pub mod Examples
 pub mod Steps
 pub mod Bits
 pub mod Masks

@@ -8,7 +8,7 @@ use native.Mathlib.Omega.{arith}
 use lib.Bits.{bitXor, bitAnd, and-le-r}
 use lib.Dec.{eqb, eqb·suc-suc}
 use lib.Pow.{pow-lt}
-use borrow.Author.Tests.{eq-eqb, ne-eqb, eqb-true}
+use borrow.Author.Tests.{eq-eqb, ne-eqb, eqb-true, not-true, not-false}
 use Rattle.xor.proofs.Cases.{by-test, by-equal, clash}
 use Rattle.solve.specs.Bit.{bit, IsLowest}
 use Rattle.solve.specs.Masked.{addedWhere}
@@ -29,6 +29,13 @@ and-power q m = by-test (bit q m) (λ p. ne-eqb (bitAnd m (2 ^ q)) 0 (some p) �
     none p =
         no-bits (suc q) (bitAnd m (2 ^ q)) (lt-of-le-of-lt (and-le-r m (2 ^ q)) (pow-lt (omega arith)))
         (λ k l. bit-and k m (2 ^ q) ∙ ap (_&&_ (bit k m)) (bit-power k q) ∙ off p k)
+
+-- as the code does it
+pub bit-clear : (q m one : ℕ) → one ≡ 2 ^ q → bitAnd m one ≡ 0 → bit q m ≡ false
+bit-clear q m one e z = not-true (bit q m) (sym (and-power q m) ∙ eq-eqb (bitAnd m (2 ^ q)) 0 (ap (bitAnd m) (sym e) ∙ z))
+
+pub bit-set : (q m one : ℕ) → one ≡ 2 ^ q → bitAnd m one ≢ 0 → bit q m ≡ true
+bit-set q m one e n = not-false (bit q m) (sym (and-power q m) ∙ ne-eqb (bitAnd m (2 ^ q)) 0 (λ z. n (ap (bitAnd m) e ∙ z)))
 
 -- ---- the lowest member taken out
 

@@ -2,7 +2,7 @@
 use mathlib.Core.Path.{_≡_, refl, sym, ap, ap₂, _∙_}
 use mathlib.Core.Logic.{_≢_}
 use mathlib.Core.Bool.{Bool, true, false, cond, not, _&&_, xor}
-use Prim.Native.Nat.{ℕ, zero, _^_, _<_}
+use Prim.Native.Nat.{ℕ, _^_, _<_}
 use lib.Dec.{eqb}
 use lib.Pow.{pow-pos}
 use borrow.Author.Tests.{eq-eqb, ne-eqb}
@@ -16,7 +16,7 @@ use Rattle.solve.proofs.Tests.{split-by}
 -- ---- sums of numbers
 
 -- one number is x, the others are zero
-pub xors-single : (n d x : ℕ) → d < n → xors n (λ k. cond (eqb k d) x 0) ≡ x
+xors-single : (n d x : ℕ) → d < n → xors n (λ k. cond (eqb k d) x 0) ≡ x
 xors-single n d x l = xors-one n (λ k. cond (eqb k d) x 0) d l (λ k lk e. rw (ne-eqb k d e) refl) ∙ rw (eq-eqb d d refl) refl
 
 -- ---- the values

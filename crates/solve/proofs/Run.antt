@@ -6,7 +6,7 @@ use native.Mathlib.Omega.{arith}
 use lib.Dec.{ltb}
 use borrow.Author.Tests.{ltb-true, ltb-false, not-true}
 use Rattle.xor.proofs.Cases.{by-test, by-equal, clash, and-left, and-right, and-both, not-passed}
-use Rattle.solve.specs.Method.{State, free, choose, Outcome, passed, stopped, turn, next, run, lowest, stateOf}
+use Rattle.solve.specs.Method.{State, free, choose, Outcome, passed, stopped, turn, next, run, lowest}
 use Rattle.solve.proofs.Lowest.{lowest-is, lowest-none}
 use Rattle.solve.proofs.Invariant.{Invariant, start-keeps, choice-keeps, now-solved, still-solved, solved-before}
 
@@ -82,11 +82,3 @@ module _ (E n : ℕ) (equation : ℕ → ℕ → Bool) (lost : ℕ → Bool) whe
   run-reached zero l =
       record { keeps = start-keeps E n equation; all = λ d k p. absurd (omega arith); low = λ d p. clash p refl; only = λ d p. clash p refl }
   run-reached (suc c) l = next-reached c (run E equation lost c) l (run-reached c (omega arith))
-
-  -- the state keeps the invariant wherever the method came to
-  pub run-keeps : (c : ℕ) → c ≤ n → Invariant E n equation (stateOf (run E equation lost c))
-  run-keeps c l = keeps-of (run E equation lost c) (run-reached c l)
-    where
-      keeps-of : (o : Outcome) → Reached c o → Invariant E n equation (stateOf o)
-      keeps-of (passed s) h = h .keeps
-      keeps-of (stopped d s) h = h .1 .sofar .keeps

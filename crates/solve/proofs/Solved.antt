@@ -15,13 +15,13 @@ use Rattle.solve.proofs.Invariant.{Invariant}
 
 module _ (E n : ℕ) (equation : ℕ → ℕ → Bool) (lost : ℕ → Bool) (s : State) where
   -- residues depend on the survivors alone
-  pub residue-same : (f g : ℕ → ℕ) → Agree n lost f g → (q : ℕ) → residue E n equation lost s f q ≡ residue E n equation lost s g q
+  residue-same : (f g : ℕ → ℕ) → Agree n lost f g → (q : ℕ) → residue E n equation lost s f q ≡ residue E n equation lost s g q
   unfolding syndrome
   residue-same f g a q =
       over-values E (s .from q) (syndrome n equation lost f) (syndrome n equation lost g)
       (λ r l p. over-values n (λ c. equation r c && not (lost c)) f g (λ c lc t. a .same c lc (not-true (lost c) (and-right (equation r c) (not (lost c)) t))))
 
-  pub rebuilt-lost : (f : ℕ → ℕ) (c : ℕ) → lost c ≡ true → rebuilt E n equation lost s f c ≡ residue E n equation lost s f (s .chosen c)
+  rebuilt-lost : (f : ℕ → ℕ) (c : ℕ) → lost c ≡ true → rebuilt E n equation lost s f c ≡ residue E n equation lost s f (s .chosen c)
   rebuilt-lost f c e = rw e refl
 
   pub rebuilt-agrees : (f : ℕ → ℕ) → Agree n lost f (rebuilt E n equation lost s f)

@@ -20,7 +20,7 @@ module _ (E : ℕ) (equation : ℕ → ℕ → Bool) (lost : ℕ → Bool) where
   run-more c = refl
 
   -- a cell that is not lost is passed over
-  pub run-over : (c : ℕ) (s : State) → lost c ≡ false → run E equation lost c ≡ passed s → run E equation lost (suc c) ≡ passed s
+  run-over : (c : ℕ) (s : State) → lost c ≡ false → run E equation lost c ≡ passed s → run E equation lost (suc c) ≡ passed s
   run-over c s e h = run-more c ∙ ap (λ (o : Outcome). next E lost o c) h ∙ rw e refl
 
   lost-turn : (c : ℕ) (s : State) → lost c ≡ true → run E equation lost c ≡ passed s → run E equation lost (suc c) ≡ turn E s c

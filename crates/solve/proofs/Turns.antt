@@ -9,13 +9,13 @@ use lib.Bits.{bitXor, bitAnd}
 use lib.Dec.{eqb}
 use lib.ListN.{length, getD, set, length-set}
 use lib.Seq.{getD-set-same, getD-set-other}
-use borrow.Author.Tests.{eq-eqb, ne-eqb, lt-ltb, le-ltb, not-true, not-false}
+use borrow.Author.Tests.{eq-eqb, ne-eqb, lt-ltb, le-ltb}
 use Rattle.xor.proofs.Cases.{by-equal, by-less, and-left, and-both, clash}
 use Rattle.solve.specs.Bit.{bit, IsLowest}
 use Rattle.solve.specs.Masked.{firstCell, startsAt, Holding, addedWhere, Spread, Own}
 use Rattle.solve.proofs.Bits.{bit-zero, bit-xor, bit-power}
 use Rattle.solve.proofs.Tests.{add-nothing}
-use Rattle.solve.proofs.Masks.{and-power, clear-lowest}
+use Rattle.solve.proofs.Masks.{bit-clear, bit-set, clear-lowest}
 
 -- ---- the lowest member t taken out of rest
 module _ (rest t : ℕ) (l : t < 64) (found : IsLowest 64 (λ k. bit k rest) t) where
@@ -76,16 +76,13 @@ module _ (rows : List ℕ) (k : ℕ) where
   }
 
   module _ (m q cell : ℕ) (e : cell ≡ 2 ^ k) (h : Holding q rows k m) where
-    member-is : eqb (bitAnd (getD rows q 0) cell) 0 ≡ not (bit k (getD rows q 0))
-    member-is = ap (λ (x : ℕ). eqb (bitAnd (getD rows q 0) x) 0) e ∙ and-power k (getD rows q 0)
-
     absent : bit q m ≡ false
     absent = h .bits q ∙ ap (λ (b : Bool). b && bit k (getD rows q 0)) (le-ltb q q (omega arith))
 
     pub holding-less : (m′ : ℕ) → m′ ≡ m → bitAnd (getD rows q 0) cell ≡ 0 → Holding (q + 1) rows k m′
     holding-less m′ same z =
         holding-next m m′ q
-        (ap (bit q) same ∙ absent ∙ sym (not-true (bit k (getD rows q 0)) (sym member-is ∙ eq-eqb (bitAnd (getD rows q 0) cell) 0 z)))
+        (ap (bit q) same ∙ absent ∙ sym (bit-clear k (getD rows q 0) cell e z))
         (λ r other. ap (bit r) same)
         h
 
@@ -93,7 +90,7 @@ module _ (rows : List ℕ) (k : ℕ) where
     unfolding xor
     holding-more m′ one e′ same z =
         holding-next m m′ q
-        (joined q ∙ ap₂ xor absent (eq-eqb q q refl) ∙ sym (not-false (bit k (getD rows q 0)) (sym member-is ∙ ne-eqb (bitAnd (getD rows q 0) cell) 0 z)))
+        (joined q ∙ ap₂ xor absent (eq-eqb q q refl) ∙ sym (bit-set k (getD rows q 0) cell e z))
         (λ r other. joined r ∙ ap (xor (bit r m)) (ne-eqb r q other) ∙ add-nothing (bit r m) true false refl)
         h
       where

@@ -24,6 +24,7 @@ pub record State : Type 0 where
   -- how many additions were made
   pub additions : ℕ
 
+-- before the first turn: nothing is chosen, and each equation is the sum of itself alone
 abbrev pub start : (ℕ → ℕ → Bool) → State
 start equation = record { row = equation; from = eqb; used = λ q. false; solved = λ c. false; chosen = λ c. 0; additions = 0 }
 
@@ -55,6 +56,7 @@ pub data Outcome : Type 0 where
   passed : State → Outcome
   stopped : ℕ → State → Outcome
 
+-- the state that the method came to
 abbrev pub stateOf : Outcome → State
 stateOf (passed s) = s
 stateOf (stopped c s) = s
@@ -63,6 +65,7 @@ stateOf (stopped c s) = s
 abbrev pub turn : ℕ → State → ℕ → Outcome
 turn E s c = let q = lowest E (free s c) in cond (ltb q E) (passed (choose E s c q)) (stopped c s)
 
+-- one cell further: a turn where it is lost, and nothing after a stop
 abbrev pub next : ℕ → (ℕ → Bool) → Outcome → ℕ → Outcome
 next E lost (passed s) c = cond (lost c) (turn E s c) (passed s)
 next E lost (stopped d s) c = stopped d s

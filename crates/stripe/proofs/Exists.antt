@@ -71,7 +71,7 @@ module _ (s : Shape) (w : WellFormed s) (old : List ℕ) (long : length old ≡ 
 
 module _ (s : Shape) (w : WellFormed s) (c : ℕ) (inside : c < cells s) (plain : isParity s c ≡ false) where
   -- x at cell c alone, encoded
-  abbrev pub alone : ℕ → ℕ → ℕ
+  abbrev alone : ℕ → ℕ → ℕ
   alone x = settled s (equations s) (point c x)
 
   alone-own : (x : ℕ) → alone x c ≡ x

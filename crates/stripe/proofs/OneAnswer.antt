@@ -6,7 +6,6 @@ use Prim.Native.Nat.{ℕ}
 use lib.ListN.{length}
 use Rattle.xor.proofs.Cases.{by-equal}
 use Rattle.codes.specs.declared.Shape.{Shape}
-use Rattle.codes.specs.Refusals.{refusal}
 use Rattle.codes.proofs.Refused.{accepted}
 use Rattle.stripe.specs.declared.BrokenCount.{BrokenCount}
 use Rattle.stripe.specs.declared.BrokenCount.the-variants.{Equations, Refused}

@@ -158,7 +158,7 @@ module _ (s : Shape) where
       unfolding member
       below q k p = ltb-true q (equations s) (and-left (ltb q (equations s)) (eqb k (parityCell s q)) p)
 
-      abbrev pub depends : ℕ → Bool
+      abbrev depends : ℕ → Bool
       depends k = isParity s k && not (eqb (parts s c d 1 k) 0)
 
       -- off the data cell, the value is that of the three parts

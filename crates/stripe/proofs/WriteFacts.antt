@@ -17,15 +17,14 @@ use Rattle.codes.specs.declared.Shape.{Shape}
 use Rattle.codes.specs.declared.Dependents.{Dependents}
 use Rattle.codes.specs.Shape.{cells, equations, cellNumber, stripeLength, WellFormed}
 use Rattle.codes.specs.Encoded.{byteAt, parityCell, isParity, Encoded}
-use Rattle.codes.specs.Refusals.{refusal}
 use Rattle.codes.specs.Depends.{DataCell, DependOn}
-use Rattle.codes.proofs.Shapes.{low, equations-third, equations-other}
+use Rattle.codes.proofs.Shapes.{low}
 use Rattle.codes.proofs.Residues.{wrapped}
 use Rattle.codes.proofs.Refused.{write-accepted}
 use Rattle.codes.proofs.Ordered.{ordered}
 use Rattle.codes.proofs.Parity.{sum-same, same-bytes}
 use Rattle.codes.proofs.Solutions.{plus, sum-plus}
-use Rattle.codes.proofs.Positions.{cell-inside}
+use Rattle.codes.proofs.Positions.{cell-inside, rdp-n, hcode-n, xcode-n}
 use Rattle.codes.proofs.Depends.{rdp-depends, rdp-row-small, rdp-column-small, hcode-depends, one-of-them, xcode-depends}
 use Rattle.stripe.specs.declared.WriteCount.{WriteCount}
 use Rattle.stripe.specs.declared.WriteCount.the-variants.{ParityCells, Refused}
@@ -118,9 +117,6 @@ module _ (s : Shape) (w : WellFormed s) (i j : ℕ) (cell : DataCell s i j) (n :
       (λ z. rw (eq-eqb (i + j) (s .p - 1) z, le-ltb (s .p - 1 + (i + j) % s .p) (equations s) (off-diagonal z)) refl)
       (λ z. rw (ne-eqb (i + j) (s .p - 1) z, lt-ltb (s .p - 1 + (i + j) % s .p) (equations s) (inside-diagonal z)) refl)))
     where
-      E : equations s ≡ 2 * (s .p - 1)
-      E = sym (equations-other s w (λ e. omega arith))
-
       small : i < s .p - 1
       small = rdp-row-small s w i j cell is-rdp
 
@@ -128,39 +124,33 @@ module _ (s : Shape) (w : WellFormed s) (i j : ℕ) (cell : DataCell s i j) (n :
       small′ = rdp-column-small s w i j cell is-rdp
 
       last : i ≡ 0 → equations s ≤ s .p - 1 + (i + (s .p - 1)) % s .p
-      last e = let at : (i + (s .p - 1)) % s .p ≡ i + (s .p - 1) = mod-eq-of-lt (omega (arith, low s w)) in omega (arith, E)
+      last e = let at : (i + (s .p - 1)) % s .p ≡ i + (s .p - 1) = mod-eq-of-lt (omega (arith, low s w)) in omega (arith, rdp-n s w is-rdp)
 
       not-last : i ≢ 0 → s .p - 1 + (i + (s .p - 1)) % s .p < equations s
-      not-last e = let at = wrapped (s .p) (i + (s .p - 1)) (omega (arith, low s w)) (omega (arith, small, low s w)) in omega (arith, E, small, low s w)
+      not-last e = let at = wrapped (s .p) (i + (s .p - 1)) (omega (arith, low s w)) (omega (arith, small, low s w)) in omega (arith, rdp-n s w is-rdp, small, low s w)
 
       off-diagonal : i + j ≡ s .p - 1 → equations s ≤ s .p - 1 + (i + j) % s .p
-      off-diagonal z = let at : (i + j) % s .p ≡ i + j = mod-eq-of-lt (omega (arith, low s w)) in omega (arith, E)
+      off-diagonal z = let at : (i + j) % s .p ≡ i + j = mod-eq-of-lt (omega (arith, low s w)) in omega (arith, rdp-n s w is-rdp)
 
       inside-diagonal : i + j ≢ s .p - 1 → s .p - 1 + (i + j) % s .p < equations s
       inside-diagonal z =
           by-less (i + j) (s .p)
-          (λ l. let at : (i + j) % s .p ≡ i + j = mod-eq-of-lt l in omega (arith, E, low s w))
-          (λ l. let at = wrapped (s .p) (i + j) l (omega (arith, small, small′)) in omega (arith, E, small, small′, low s w))
+          (λ l. let at : (i + j) % s .p ≡ i + j = mod-eq-of-lt l in omega (arith, rdp-n s w is-rdp, low s w))
+          (λ l. let at = wrapped (s .p) (i + j) l (omega (arith, small, small′)) in omega (arith, rdp-n s w is-rdp, small, small′, low s w))
 
   -- H-Code and X-Code: always 2
   pub hcode-count : s .code ≡ 2 → n ≡ 2
   hcode-count is-hcode =
       by-equations (record { first = i; second = s .p - 1 + (j + (s .p - 2 - i)) % s .p; third = 2 * (s .p - 1) }) (hcode-depends s w i j cell is-hcode ((j + (s .p - 2 - i)) % s .p) refl)
-      ∙ rw (lt-ltb (s .p - 1 + (j + (s .p - 2 - i)) % s .p) (equations s) there, le-ltb (2 * (s .p - 1)) (equations s) (omega (arith, E))) refl
+      ∙ rw (lt-ltb (s .p - 1 + (j + (s .p - 2 - i)) % s .p) (equations s) there, le-ltb (2 * (s .p - 1)) (equations s) (omega (arith, hcode-n s w is-hcode))) refl
     where
-      E : equations s ≡ 2 * (s .p - 1)
-      E = sym (equations-other s w (λ e. omega arith))
-
       there : s .p - 1 + (j + (s .p - 2 - i)) % s .p < equations s
-      there = let small : (j + (s .p - 2 - i)) % s .p < s .p = mod-lt (j + (s .p - 2 - i)) (omega (arith, low s w)) in let one = one-of-them s w i j cell is-hcode in omega (arith, E)
+      there = let small : (j + (s .p - 2 - i)) % s .p < s .p = mod-lt (j + (s .p - 2 - i)) (omega (arith, low s w)) in let one = one-of-them s w i j cell is-hcode in omega (arith, hcode-n s w is-hcode)
 
   pub xcode-count : s .code ≡ 3 → n ≡ 2
   xcode-count is-xcode =
       by-equations (record { first = (j + (s .p - 2 - i)) % s .p; second = s .p + (j + (i + 2)) % s .p; third = 2 * s .p }) (xcode-depends s w i j cell is-xcode ((j + (s .p - 2 - i)) % s .p) ((j + (i + 2)) % s .p) refl refl)
-      ∙ rw (lt-ltb (s .p + (j + (i + 2)) % s .p) (equations s) there, le-ltb (2 * s .p) (equations s) (omega (arith, E))) refl
+      ∙ rw (lt-ltb (s .p + (j + (i + 2)) % s .p) (equations s) there, le-ltb (2 * s .p) (equations s) (omega (arith, xcode-n s w is-xcode))) refl
     where
-      E : equations s ≡ 2 * s .p
-      E = sym (equations-third s is-xcode)
-
       there : s .p + (j + (i + 2)) % s .p < equations s
-      there = let small : (j + (i + 2)) % s .p < s .p = mod-lt (j + (i + 2)) (omega (arith, low s w)) in omega (arith, E)
+      there = let small : (j + (i + 2)) % s .p < s .p = mod-lt (j + (i + 2)) (omega (arith, low s w)) in omega (arith, xcode-n s w is-xcode)

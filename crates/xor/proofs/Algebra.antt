@@ -34,7 +34,7 @@ unfolding _⊕_
 
 -- ---- associativity, by the last binary digit
 
-digit : (a : ℕ) → a % 2 < 2
+pub digit : (a : ℕ) → a % 2 < 2
 digit a = mod-lt a (zero-lt-suc 1)
 
 differ-digit : (x y : ℕ) → x < 2 → y < 2 → differ x y < 2

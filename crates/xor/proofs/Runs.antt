@@ -1,4 +1,4 @@
--- Laws of blocks and runs: one turn of each loop that adds, stores or gathers bytes.
+-- Laws of parts, blocks and runs of bytes: one turn of each loop that adds, stores or gathers them.
 use mathlib.Core.Path.{_≡_, refl, sym, ap, ap₂, _∙_, subst}
 use mathlib.Core.Logic.{_≢_, _⊎_, inl, inr, ⊎-elim}
 use mathlib.Core.List.{List}
@@ -6,8 +6,8 @@ use mathlib.Core.Bool.{Bool, true, false}
 use Prim.Native.Nat.{ℕ, _+_, _-_, _≤_, _<_}
 use native.Mathlib.Nat.{add-assoc, zero-add}
 use native.Mathlib.Omega.{arith}
-use lib.ListN.{length, getD, set, take, length-set, replicate, getD-replicate}
-use lib.Seq.{getD-set-same, getD-set-other, length-take-le, getD-take}
+use lib.ListN.{length, getD, set, take, drop, length-set, length-drop, replicate, getD-replicate}
+use lib.Seq.{getD-set-same, getD-set-other, length-take-le, getD-take, getD-drop}
 use lib.Bits.{bitXor, bitOr}
 use lib.Dec.{eqb}
 use borrow.Author.Tests.{eqb-true, eqb-false}
@@ -16,6 +16,14 @@ use Rattle.xor.specs.Runs.{sumAt, changedBy, addedTo, Inside, Apart, Bes
 use Rattle.xor.proofs.Cases.{by-equal, by-less, clash}
 use Rattle.xor.proofs.Algebra.{⊕-is, zero-⊕, ⊕-zero, ⊕-comm, ⊕-assoc, ⊕-equal, equal-⊕, or-none-left, or-none-right}
 use Rattle.xor.proofs.Sums.{xors-more, xors-none, xors-same}
+
+-- ---- a part of some bytes: n of them, from byte `at` on
+
+pub part-long : (bytes : List ℕ) (at n : ℕ) → at + n ≤ length bytes → length (take n (drop at bytes)) ≡ n
+part-long bytes at n l = length-take-le n (drop at bytes) (omega (arith, length-drop at bytes))
+
+pub part-byte : (bytes : List ℕ) (at n t : ℕ) → t < n → getD (take n (drop at bytes)) t 0 ≡ getD bytes (at + t) 0
+part-byte bytes at n t l = getD-take n (drop at bytes) t 0 l ∙ getD-drop at bytes t 0
 
 -- ---- bytes XORed into a block
 
@@ -35,10 +43,10 @@ added-more sum r n x f l h e = record {
 }
 
 -- nothing to add, and two additions in one
-pub added-zero : (sum : List ℕ) (n : ℕ) (f : ℕ → ℕ) → ((i : ℕ) → i < n → f i ≡ 0) → Added sum n f sum
+added-zero : (sum : List ℕ) (n : ℕ) (f : ℕ → ℕ) → ((i : ℕ) → i < n → f i ≡ 0) → Added sum n f sum
 added-zero sum n f z = record { long = refl; inner = λ i l. sym (⊕-zero (getD sum i 0)) ∙ ap (λ (y : ℕ). getD sum i 0 ⊕ y) (sym (z i l)); outer = λ i l. refl }
 
-pub added-twice : (sum r r′ : List ℕ) (n : ℕ) (f g h : ℕ → ℕ) → Added sum n f r → Added r n g r′ → ((i : ℕ) → i < n → f i ⊕ g i ≡ h i) → Added sum n h r′
+added-twice : (sum r r′ : List ℕ) (n : ℕ) (f g h : ℕ → ℕ) → Added sum n f r → Added r n g r′ → ((i : ℕ) → i < n → f i ⊕ g i ≡ h i) → Added sum n h r′
 added-twice sum r r′ n f g h a b e = record {
   long = b .long ∙ a .long;
   inner = λ i l. b .inner i l ∙ ap (λ (y : ℕ). y ⊕ g i) (a .inner i l) ∙ ⊕-assoc (getD sum i 0) (f i) (g i) ∙ ap (λ (y : ℕ). getD sum i 0 ⊕ y) (e i l);
@@ -122,7 +130,7 @@ put-more s s′ to n x f l h e = record {
     less i side = ⊎-elim (λ w. inl w) (λ w. inr (omega arith)) side
 
 -- a run apart from the bytes stored has its old bytes
-pub sum-apart : (s s′ places : List ℕ) (to d n t : ℕ) (f : ℕ → ℕ) → Put s to d f s′ → Apart places to n → d ≤ n → t < n
+sum-apart : (s s′ places : List ℕ) (to d n t : ℕ) (f : ℕ → ℕ) → Put s to d f s′ → Apart places to n → d ≤ n → t < n
     → sumAt s′ places t ≡ sumAt s places t
 unfolding sumAt
 sum-apart s s′ places to d n t f h a ld lt =
@@ -270,7 +278,7 @@ module _ (f : ℕ → ℕ) where
   abbrev pub Zero : ℕ → Type 0
   Zero n = (t : ℕ) → t < n → f t ≡ 0
 
-  abbrev pub ZeroFrom : ℕ → ℕ → Type 0
+  abbrev ZeroFrom : ℕ → ℕ → Type 0
   ZeroFrom at n = (t : ℕ) → t < n → f (at + t) ≡ 0
 
   -- a block from `at` on, where f is zero up to `done`

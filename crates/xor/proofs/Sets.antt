@@ -1,14 +1,14 @@
--- Laws of sets of numbers below n: what is in none of them, what is in one, and how many there are.
+-- Laws of sets of numbers below n: what is in none of them, what is in one, how many there are, and which of them are the lowest.
 use mathlib.Core.Path.{_≡_, refl, sym, ap, ap₂, _∙_}
-use mathlib.Core.Bool.{Bool, true, false, cond, _||_}
-use Prim.Native.Nat.{ℕ, zero, suc, _+_, _≤_, _<_}
-use native.Mathlib.Nat.{add-zero}
+use mathlib.Core.Bool.{Bool, true, false, cond, not, _&&_, _||_}
+use Prim.Native.Nat.{ℕ, zero, suc, _+_, _-_, _%_, _≤_, _<_, min}
+use native.Mathlib.Nat.{add-zero, add-suc, add-comm, mod-lt, mod-eq-of-lt, add-mod-mod, add-mod-right}
 use native.Mathlib.Numerals.{add-one}
 use native.Mathlib.Omega.{arith}
-use lib.Dec.{eqb}
-use borrow.Author.Tests.{eq-eqb, ne-eqb}
+use lib.Dec.{eqb, ltb}
+use borrow.Author.Tests.{eq-eqb, ne-eqb, lt-ltb, le-ltb}
 use Rattle.xor.specs.Sets.{any, count}
-use Rattle.xor.proofs.Cases.{by-test, by-equal, clash}
+use Rattle.xor.proofs.Cases.{by-test, by-equal, by-less, clash}
 
 neither : (a b : Bool) → (a || b) ≡ false → (a ≡ false) × (b ≡ false)
 neither true b h = clash refl h
@@ -101,3 +101,82 @@ count-insert (suc n) test a l h =
     rw (here, gone) (omega (arith, below)))
     (λ e. let other : eqb n a ≡ false = ne-eqb n a (λ z. e (sym z)) in
     rw other (omega (arith, count-insert n test a (omega arith) h)))
+
+-- all pass
+pub count-all : (n : ℕ) (test : ℕ → Bool) → ((k : ℕ) → k < n → test k ≡ true) → count n test ≡ n
+unfolding count
+count-all zero test h = refl
+count-all (suc n) test h = rw (h n (omega arith)) (omega (arith, count-all n test (λ k l. h k (omega arith))))
+
+-- those that pass and those that fail are all
+pub count-not : (n : ℕ) (test : ℕ → Bool) → count n test + count n (λ i. not (test i)) ≡ n
+unfolding count
+count-not zero test = refl
+count-not (suc n) test = by-test (test n) (λ p. rw p (omega (arith, count-not n test))) (λ p. rw p (omega (arith, count-not n test)))
+
+-- one of the numbers fails
+pub count-fails : (n : ℕ) (test : ℕ → Bool) (a : ℕ) → a < n → test a ≡ false → count n test ≤ n - 1
+count-fails n test a l h =
+    by-equal (count n (λ i. not (test i))) 0
+    (λ none. clash (ap not h) (count-zero n (λ i. not (test i)) none a l))
+    (λ some. omega (arith, count-not n test))
+
+-- ---- counts in parts
+
+-- those below a, and those from a on
+pub count-parts : (a b : ℕ) (test : ℕ → Bool) → count (a + b) test ≡ count a test + count b (λ i. test (a + i))
+unfolding count
+count-parts a zero test = rw (add-zero a) (sym (add-zero (count a test)))
+count-parts a (suc b) test = rw (add-suc a b) (omega (arith, count-parts a b test))
+
+-- the first number, and those after it
+pub count-first : (n : ℕ) (test : ℕ → Bool) → count (suc n) test ≡ cond (test 0) 1 0 + count n (λ i. test (suc i))
+unfolding count
+count-first zero test = add-comm 0 (cond (test 0) 1 0)
+count-first (suc n) test = omega (arith, count-first n test)
+
+-- ---- moved round
+
+-- a move by c mod p goes once to each number below p
+count-turned : (p c : ℕ) (test : ℕ → Bool) → c < p → count p (λ j. test ((j + c) % p)) ≡ count p test
+count-turned p c test l =
+    ap (λ (n : ℕ). count n moved) (sym first) ∙ count-parts (p - c) c moved
+    ∙ ap₂ _+_ (count-same (p - c) moved (λ i. test (c + i)) (λ i li. ap test (near i li))) (count-same c (λ i. moved (p - c + i)) test (λ i li. ap test (far i li)))
+    ∙ add-comm (count (p - c) (λ i. test (c + i))) (count c test)
+    ∙ sym (count-parts c (p - c) test) ∙ ap (λ (n : ℕ). count n test) second
+  where
+    moved : ℕ → Bool
+    moved j = test ((j + c) % p)
+
+    first : p - c + c ≡ p
+    first = omega arith
+
+    second : c + (p - c) ≡ p
+    second = omega arith
+
+    near : (i : ℕ) → i < p - c → (i + c) % p ≡ c + i
+    near i li = mod-eq-of-lt (omega arith) ∙ add-comm i c
+
+    far : (i : ℕ) → i < c → (p - c + i + c) % p ≡ i
+    far i li = ap (λ (n : ℕ). n % p) whole ∙ add-mod-right i p ∙ mod-eq-of-lt (omega arith)
+      where
+        whole : p - c + i + c ≡ i + p
+        whole = omega arith
+
+-- and so does a move by any c
+pub count-round : (p c : ℕ) (test : ℕ → Bool) → 0 < p → count p (λ j. test ((j + c) % p)) ≡ count p test
+count-round p c test l =
+    count-same p (λ j. test ((j + c) % p)) (λ j. test ((j + c % p) % p)) (λ j lj. ap test (sym (add-mod-mod j c p))) ∙ count-turned p (c % p) test (mod-lt c l)
+
+-- ---- the lowest members of a set
+
+-- the lowest m of those that pass
+pub count-lowest : (n m : ℕ) (test : ℕ → Bool) → count n (λ i. test i && ltb (count i test) m) ≡ min (count n test) m
+unfolding count
+count-lowest zero m test = omega arith
+count-lowest (suc n) m test =
+    by-test (test n)
+    (λ p. by-less (count n test) m
+    (λ l. rw (p, lt-ltb (count n test) m l) (omega (arith, count-lowest n m test)))
+    (λ l. rw (p, le-ltb (count n test) m l) (omega (arith, count-lowest n m test))))
+    (λ p. rw p (omega (arith, count-lowest n m test)))

@@ -33,6 +33,11 @@ unfolding xors
 xors-bits b zero f h = pow-pos b
 xors-bits b (suc n) f h = ⊕-bits b (xors n f) (f n) (xors-bits b n f (λ k l. h k (omega arith))) (h n (omega arith))
 
+-- a number that is 0, or nothing
+pub nothing : (b : Bool) (x : ℕ) → x ≡ 0 → cond b x 0 ≡ 0
+nothing true x e = e
+nothing false x e = refl
+
 pub xors-zero : (n : ℕ) (f : ℕ → ℕ) → ((k : ℕ) → k < n → f k ≡ 0) → xors n f ≡ 0
 unfolding xors
 xors-zero zero f h = refl
@@ -56,7 +61,7 @@ xors-plus (suc n) f g = ap (λ (x : ℕ). x ⊕ (f n ⊕ g n)) (xors-plus n f g)
 -- ---- sums over the numbers that pass a test
 
 -- the numbers that pass a test, without d
-abbrev pub without : ℕ → (ℕ → Bool) → ℕ → Bool
+abbrev without : ℕ → (ℕ → Bool) → ℕ → Bool
 without d e c = e c && not (eqb c d)
 
 without-same : (d : ℕ) (e : ℕ → Bool) → without d e d ≡ false

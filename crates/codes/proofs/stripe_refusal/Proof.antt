@@ -1,63 +1,29 @@
--- `codes::stripe_refusal` meets its contract. Each return gives the first refusal in order, by the tests before it.
-use mathlib.Core.Path.{_≡_, sym, _∙_}
-use mathlib.Core.Bool.{true}
-use borrow.Author.Tests.{not-true, not-false}
-use Rattle.codes.specs.Shape.{listed, WellFormed}
-use Rattle.codes.proofs.Refused.{code-zero, code-large, prime-other, cell-zero, cell-large, well-formed, length-other, all-right}
+-- `codes::stripe_refusal` meets its contract. What is wrong with the shape comes first, then the length.
+use mathlib.Core.Path.{sym, _∙_}
+use Rattle.codes.proofs.Refused.{shape-first, shape-accepted, length-other, all-right}
 use borrow.Author.Needs.{needs}
 use Rattle.codes.proofs.stripe_refusal.Statement.{statement}
 use Rattle.codes.proofs.stripe_refusal.Tie as tie
 
+shape-refusal-requires : tie.Need-shape-refusal-requires
+shape-refusal-requires c κs = search needs
+
 returns : tie.Need-returns
-returns c = code-zero (c .before .before .args .shape) _ (c .if1 .taken)
+returns c = let a = c .before .before .args in shape-first (a .shape) (a .bytes) _ (c .before .shape-refusal .ensures) (c .if1 .taken)
+
+stripe-bytes-requires : tie.Need-stripe-bytes-requires
+stripe-bytes-requires c κs = shape-accepted (c .before .before .args .shape) (sym (c .before .shape-refusal .ensures) ∙ c .if1 .left)
 
 returns-2 : tie.Need-returns-2
-returns-2 c = code-large (c .before .before .before .before .args .shape) _ (c .if2 .taken)
-
-is-listed-requires : tie.Need-is-listed-requires
-is-listed-requires c κs = search needs
+returns-2 c =
+    let a = c .before .before .before .before .args in
+    length-other (a .shape) (a .bytes) (sym (c .before .before .before .shape-refusal .ensures) ∙ c .before .before .if1 .left) (λ e. c .if2 .taken (e ∙ sym (c .before .stripe-bytes .ensures)))
 
 returns-3 : tie.Need-returns-3
 returns-3 c =
-    prime-other (c .before .before .before .before .before .before .args .shape) _ (c .before .before .before .before .if1 .left) (c .before .before .if2 .left) (sym (c .before .is-listed .ensures) ∙ not-true _ (c .if3 .taken))
-
--- past the third test p is listed
-prime : (c : tie.Else3) → listed (c .before .before .before .before .before .before .args .shape .p) ≡ true
-prime c = sym (c .before .is-listed .ensures) ∙ not-false _ (c .if3 .left)
-
--- past the fifth test the shape is well formed
-formed : (c : tie.Else5) → WellFormed (c .before .before .before .before .before .before .before .before .before .before .args .shape)
-formed c = well-formed (c .before .before .before .before .before .before .before .before .before .before .args .shape) (c .before .before .before .before .before .before .before .before .before .before .args .bytes) (c .before .before .before .before .before .before .before .before .if1 .left) (c .before .before .before .before .before .before .if2 .left) (prime (c .before .before .before .before)) (c .before .before .if4 .left) (c .if5 .left)
-
-returns-4 : tie.Need-returns-4
-returns-4 c = cell-zero (c .before .before .before .before .before .before .before .before .args .shape) _ (c .before .before .before .before .before .before .if1 .left) (c .before .before .before .before .if2 .left) (prime (c .before .before)) (c .if4 .taken)
-
-returns-5 : tie.Need-returns-5
-returns-5 c = cell-large (c .before .before .before .before .before .before .before .before .before .before .args .shape) _ (c .before .before .before .before .before .before .before .before .if1 .left) (c .before .before .before .before .before .before .if2 .left) (prime (c .before .before .before .before)) (c .if5 .taken)
-
-stripe-bytes-requires : tie.Need-stripe-bytes-requires
-stripe-bytes-requires c κs = formed c
-
-returns-6 : tie.Need-returns-6
-returns-6 c =
-    length-other (c .before .before .before .before .before .before .before .before .before .before .before .before .args .shape) (c .before .before .before .before .before .before .before .before .before .before .before .before .args .bytes) (c .before .before .before .before .before .before .before .before .before .before .if1 .left) (c .before .before .before .before .before .before .before .before .if2 .left) (prime (c .before .before .before .before .before .before)) (c .before .before .before .before .if4 .left) (c .before .before .if5 .left)
-    (λ e. c .if6 .taken (e ∙ sym (c .before .stripe-bytes .ensures)))
-
-returns-7 : tie.Need-returns-7
-returns-7 c =
-    all-right (c .before .before .before .before .before .before .before .before .before .before .before .before .args .shape) (c .before .before .before .before .before .before .before .before .before .before .before .before .args .bytes) (c .before .before .before .before .before .before .before .before .before .before .if1 .left) (c .before .before .before .before .before .before .before .before .if2 .left) (prime (c .before .before .before .before .before .before)) (c .before .before .before .before .if4 .left) (c .before .before .if5 .left)
-    (c .if6 .left ∙ c .before .stripe-bytes .ensures)
+    let a = c .before .before .before .before .args in
+    all-right (a .shape) (a .bytes) (sym (c .before .before .before .shape-refusal .ensures) ∙ c .before .before .if1 .left) (c .if2 .left ∙ c .before .stripe-bytes .ensures)
 
 pub stripe-refusal-spec : {M : Type 1} → statement M
 stripe-refusal-spec =
-    tie.close
-    (tie.spec
-    returns
-    returns-2
-    is-listed-requires
-    returns-3
-    returns-4
-    returns-5
-    stripe-bytes-requires
-    returns-6
-    returns-7)
+    tie.close (tie.spec shape-refusal-requires returns stripe-bytes-requires returns-2 returns-3)

@@ -35,12 +35,12 @@ eliminate-requires : tie.Need-eliminate-requires
 eliminate-requires c κs = (c .before .before .before .hold-lost .ensures .long, refl, refl, few-in (c .before .before .before .before .before .before), omega (arith, c .before .before .before .before .before .before .before .equation-count .ensures, small-equations (c .before .before .before .before .before .before .before .before .before .before .args .shape) (c .before .before .before .before .before .before .before .before .before .before .pre .0)))
 
 returns-2 : tie.Need-returns-2
-returns-2 c = decision-open _ (c .before .before .before .before .before .before .before .before .before .before .before .before .before .pre .0) _ _ _ (c .before .before .before .before .before .before .before .before .before .before .before .list-lost .ensures) (few (c .before .before .before .before .before .before .before .before .before)) _ (c .before .before .before .before .before .before .hold-lost .ensures) _ _ _ _ (c .before .before .before .before .before .before .before .before .before .before .equation-count .ensures) (c .before .before .eliminate .ensures) _ _ (not-true _ (c .if2 .taken))
+returns-2 c = decision-open _ (c .before .before .before .before .before .before .before .before .before .before .before .before .before .pre .0) _ _ _ (c .before .before .before .before .before .before .before .before .before .before .before .list-lost .ensures) (few (c .before .before .before .before .before .before .before .before .before)) _ (c .before .before .before .before .before .before .hold-lost .ensures) _ _ _ _ (c .before .before .before .before .before .before .before .before .before .before .equation-count .ensures) (c .before .before .eliminate .ensures) _ _ (not-true (c .before .before .eliminate .result .determined) (c .if2 .taken))
 
 gather-requires : tie.Need-gather-requires
 gather-requires c κs =
     let e = c .before .before .before .before .before .eliminate .ensures in
-    let small = chosen-small _ (c .before .before .before .before .before .before .before .before .before .before .before .before .before .before .before .before .pre .0) _ _ _ (c .before .before .before .before .before .before .before .before .before .before .before .before .before .before .list-lost .ensures) (few (c .before .before .before .before .before .before .before .before .before .before .before .before)) _ (c .before .before .before .before .before .before .before .before .before .hold-lost .ensures) _ _ _ _ (c .before .before .before .before .before .before .before .before .before .before .before .before .before .equation-count .ensures) e (not-false _ (c .before .before .before .if2 .left)) in
+    let small = chosen-small _ (c .before .before .before .before .before .before .before .before .before .before .before .before .before .before .before .before .pre .0) _ _ _ (c .before .before .before .before .before .before .before .before .before .before .before .before .before .before .list-lost .ensures) (few (c .before .before .before .before .before .before .before .before .before .before .before .before)) _ (c .before .before .before .before .before .before .before .before .before .hold-lost .ensures) _ _ _ _ (c .before .before .before .before .before .before .before .before .before .before .before .before .before .equation-count .ensures) e (not-false (c .before .before .before .before .before .eliminate .result .determined) (c .before .before .before .if2 .left)) in
     (few-in (c .before .before .before .before .before .before .before .before .before .before .before .before), e .longChosen, e .longSources, c .before .before .before .before .before .before .before .before .before .before .before .before .before .before .before .before .pre .2, small)
 
 list-members-requires : tie.Need-list-members-requires
@@ -53,7 +53,7 @@ gather-requires-2 c κs =
 
 returns-3 : tie.Need-returns-3
 returns-3 c =
-    decision-solved _ (c .before .before .before .before .before .before .before .before .before .before .before .before .before .before .before .before .before .before .before .before .before .before .before .pre .0) _ _ _ (c .before .before .before .before .before .before .before .before .before .before .before .before .before .before .before .before .before .before .before .before .before .list-lost .ensures) (few (c .before .before .before .before .before .before .before .before .before .before .before .before .before .before .before .before .before .before .before)) _ (c .before .before .before .before .before .before .before .before .before .before .before .before .before .before .before .before .hold-lost .ensures) _ _ _ _ (c .before .before .before .before .before .before .before .before .before .before .before .before .before .before .before .before .before .before .before .before .equation-count .ensures) (c .before .before .before .before .before .before .before .before .before .before .before .before .eliminate .ensures) (not-false _ (c .before .before .before .before .before .before .before .before .before .before .if2 .left)) _
+    decision-solved _ (c .before .before .before .before .before .before .before .before .before .before .before .before .before .before .before .before .before .before .before .before .before .before .before .pre .0) _ _ _ (c .before .before .before .before .before .before .before .before .before .before .before .before .before .before .before .before .before .before .before .before .before .list-lost .ensures) (few (c .before .before .before .before .before .before .before .before .before .before .before .before .before .before .before .before .before .before .before)) _ (c .before .before .before .before .before .before .before .before .before .before .before .before .before .before .before .before .hold-lost .ensures) _ _ _ _ (c .before .before .before .before .before .before .before .before .before .before .before .before .before .before .before .before .before .before .before .before .equation-count .ensures) (c .before .before .before .before .before .before .before .before .before .before .before .before .eliminate .ensures) (not-false (c .before .before .before .before .before .before .before .before .before .before .before .before .eliminate .result .determined) (c .before .before .before .before .before .before .before .before .before .before .if2 .left)) _
     (c .before .before .before .before .before .before .gather .ensures) _ _ _ (c .before .before .before .before .list-members .ensures) (c .gather2 .ensures)
 
 pub decide-spec : {M : Type 1} → statement M

@@ -18,7 +18,7 @@ same-length : tie.Need-same-length
 same-length c = search needs
 
 returns : tie.Need-returns
-returns c = mends-not (c .before .before .before .before .before .before .args .shape) _ _ _ _ _ _ _ (c .before .before .survivors-agree .ensures .0) (not-true _ (c .if1 .taken))
+returns c = mends-not (c .before .before .before .before .before .before .args .shape) _ _ _ _ _ _ _ (c .before .before .survivors-agree .ensures .0) (not-true (c .before .before .survivors-agree .result) (c .if1 .taken))
 
 slice-aggregate-fill : tie.Need-slice-aggregate-fill
 slice-aggregate-fill c = search needs
@@ -37,7 +37,7 @@ same-length-2 : tie.Need-same-length-2
 same-length-2 c = c .before .before .before .fill .ensures .long
 
 returns-2 : tie.Need-returns-2
-returns-2 c = mends-done (c .before .before .before .before .before .before .before .before .before .before .before .before .args .shape) _ _ _ _ _ _ _ _ (c .before .before .before .before .before .before .before .before .survivors-agree .ensures .0) (not-false _ (c .before .before .before .before .before .before .if1 .left)) (c .before .before .before .fill .ensures)
+returns-2 c = mends-done (c .before .before .before .before .before .before .before .before .before .before .before .before .args .shape) _ _ _ _ _ _ _ _ (c .before .before .before .before .before .before .before .before .survivors-agree .ensures .0) (not-false (c .before .before .before .before .before .before .before .before .survivors-agree .result) (c .before .before .before .before .before .before .if1 .left)) (c .before .before .before .fill .ensures)
 
 pub mend-spec : {M : Type 1} → statement M
 mend-spec =

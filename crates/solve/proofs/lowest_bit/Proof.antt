@@ -1,4 +1,4 @@
--- `lowest_bit`: the count of trailing zeros is the lowest set bit, and a mask that is not 0 has one.
+-- `solve::lowest_bit` meets its contract: the count of trailing zeros is the lowest set bit, and a mask that is not 0 has one.
 use native.Mathlib.Omega.{arith}
 use Rattle.solve.proofs.lowest_bit.Statement.{statement}
 use Rattle.solve.proofs.lowest_bit.Tie as tie
