@@ -1,0 +1,19 @@
+-- The laws behind plan, run and show.
+pub mod Column
+pub mod Diagonals
+pub mod Refused
+pub mod Accepted
+pub mod Rule
+pub mod Cells
+pub mod Counting
+pub mod PlanReads
+pub mod PlanFacts
+pub mod Planning
+pub mod Slots
+pub mod Choice
+pub mod Parts
+pub mod Budget
+pub mod SameReads
+pub mod Covered
+pub mod Showing
+pub mod ShowFacts

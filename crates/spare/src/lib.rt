@@ -1,0 +1,384 @@
+// RDP with one lost column: a plan of what to read, the rebuild by plan into a spare column, and a look at a cell while that runs.
+// Each call takes any numbers and any bytes: what can't be done is refused by its number, with every byte as it was.
+ghost use mathlib.Core.Path.{_≡_};
+ghost use mathlib.Core.List.{_∷_};
+ghost use Prim.Native.Nat.{_+_, _-_, _*_, _^_, _≤_, _<_, min};
+ghost use lib.Count.{ones};
+ghost use lib.ListN.{length};
+ghost use Rattle.xor.specs.Runs.{Put};
+ghost use Rattle.codes.specs.Shape.{rows, WellFormed};
+ghost use Rattle.codes.specs.Refusals.{refusal, shapeFaults};
+ghost use Rattle.spare.specs.Plan.{chosen, ByRule, isAccepted};
+ghost use Rattle.spare.specs.Refusals.{notRdp, planFaults, spareFaults, runFaults, showFaults};
+ghost use Rattle.spare.specs.Right.{RdpColumn, RunRight};
+ghost use Rattle.spare.specs.Others.{Held, OthersAt, RowRight};
+ghost use Rattle.spare.specs.Run.{Plans, rebuiltByte, RowsRebuilt, RunsByPlan};
+ghost use Rattle.spare.specs.Show.{reason, Shown, Shows};
+use codes::Shape;
+
+// A plan for one lost column: bit i of `rows` is 1 where row i is taken by its diagonal and 0 where by its row; how many distinct
+// cells the plan reads.
+pub struct ReadPlan {
+    pub rows: u64,
+    pub reads: usize,
+}
+
+// What plan answers: the plan, or a refusal number.
+pub enum PlanAnswer {
+    Plan(ReadPlan),
+    Refused(usize),
+}
+
+// What a run by plan answers: how many rows it rebuilt, or a refusal number.
+pub enum RunAnswer {
+    Rows(usize),
+    Refused(usize),
+}
+
+// Where a shown cell starts: in the stripe or in the spare; or a refusal number.
+pub enum ShownAt {
+    Stripe(usize),
+    Spare(usize),
+    Refused(usize),
+}
+
+// The refusal of a shape that must be RDP's: 1, 2, 3 or 4, the lowest that applies, or 0.
+fn rdp_refusal(shape: Shape) -> usize
+    ensures { λ r. ⌜ r ≡ refusal (notRdp shape ∷ shapeFaults shape) ⌝ }
+{
+    let refusal = codes::shape_refusal(shape);
+    if refusal == 1 {
+        return refusal;
+    }
+    if refusal == 2 {
+        return refusal;
+    }
+    if shape.code != 1 {
+        return 3;
+    }
+    refusal
+}
+
+// The refusal of a plan for column k: the lowest number that applies, or 0.
+fn plan_refusal(shape: Shape, k: usize) -> usize
+    ensures { λ r. ⌜ r ≡ refusal (planFaults shape k) ⌝ }
+{
+    let refusal = rdp_refusal(shape);
+    if refusal != 0 {
+        return refusal;
+    }
+    if codes::column_count(shape) <= k {
+        return 6;
+    }
+    0
+}
+
+// The refusal of a call on a lent stripe and a lent spare of so many bytes: the lowest number that applies, or 0.
+fn spare_refusal(shape: Shape, bytes: usize, spare: usize) -> usize
+    ensures { λ r. ⌜ r ≡ refusal (spareFaults shape bytes spare) ⌝ }
+{
+    let refusal = rdp_refusal(shape);
+    if refusal != 0 {
+        return refusal;
+    }
+    if bytes != codes::stripe_bytes(shape) {
+        return 5;
+    }
+    if spare != codes::row_count(shape) * shape.cell {
+        return 5;
+    }
+    0
+}
+
+// Whether a plan is accepted. Row p-1-k of a column from 1 to p-1 lies on the missing diagonal and can only be taken by its row; the diagonal
+// parity column can only be taken by its diagonals.
+fn is_accepted(shape: Shape, k: usize, plan: u64) -> bool
+    requires { ⌜ RdpColumn shape k ⌝ }
+    ensures { λ r. ⌜ r ≡ isAccepted shape k plan ⌝ }
+{
+    let last = shape.p - 1;
+    let bound = solve::one_bit(last);
+    if bound <= plan {
+        return false;
+    }
+    if k == shape.p {
+        return plan == bound - 1;
+    }
+    if k == 0 {
+        return true;
+    }
+    plan & solve::one_bit(last - k) == 0
+}
+
+// The refusal of a run for column k by a plan from a first row on: the lowest number that applies, or 0.
+fn run_refusal(shape: Shape, bytes: usize, spare: usize, k: usize, plan: u64, first: usize) -> usize
+    ensures { λ r. ⌜ r ≡ refusal (runFaults shape bytes spare k plan first) ⌝ }
+{
+    let refusal = spare_refusal(shape, bytes, spare);
+    if refusal != 0 {
+        return refusal;
+    }
+    if codes::column_count(shape) <= k {
+        return 6;
+    }
+    if shape.p <= first {
+        return 6;
+    }
+    if !is_accepted(shape, k, plan) {
+        return 9;
+    }
+    0
+}
+
+// The refusal of a show of a row and a column while column k is being rebuilt: the lowest number that applies, or 0.
+fn show_refusal(
+    shape: Shape,
+    bytes: usize,
+    spare: usize,
+    k: usize,
+    done: usize,
+    row: usize,
+    column: usize,
+) -> usize
+    ensures { λ r. ⌜ r ≡ refusal (showFaults shape bytes spare k done row column) ⌝ }
+{
+    let refusal = spare_refusal(shape, bytes, spare);
+    if refusal != 0 {
+        return refusal;
+    }
+    if codes::row_count(shape) <= row {
+        return 6;
+    }
+    let columns = codes::column_count(shape);
+    if columns <= column {
+        return 6;
+    }
+    if columns <= k {
+        return 6;
+    }
+    if shape.p <= done {
+        return 6;
+    }
+    if column != k {
+        return 0;
+    }
+    if done <= row {
+        return 10;
+    }
+    0
+}
+
+// The rows that the rule takes by diagonal: all for column p; else the lowest (p - 1) / 2, or one more of the lowest with row p - 1 - k
+// taken out where that is among them.
+fn rule_rows(shape: Shape, k: usize) -> u64
+    requires { ⌜ RdpColumn shape k ⌝ }
+    ensures { λ r. ⌜ ByRule shape k r ⌝ }
+{
+    let n = shape.p - 1;
+    if n < k {
+        return solve::one_bit(n) - 1;
+    }
+    let half = n / 2;
+    let left_out = n - k;
+    if left_out < half {
+        return (solve::one_bit(half + 1) - 1) ^ solve::one_bit(left_out);
+    }
+    solve::one_bit(half) - 1
+}
+
+// How many distinct cells are read where the rows of a mask are taken by diagonal, and the others by row: of (p - 1)² cells each
+// pair of a row of one kind and a row of the other saves one.
+fn reads_by(shape: Shape, rows: u64) -> usize
+    requires { ⌜ WellFormed shape × (rows < 2 ^ (shape .p - 1)) ⌝ }
+    ensures { λ r. ⌜ r ≡ (shape .p - 1) * (shape .p - 1) - ones rows * (shape .p - 1 - ones rows) ⌝ }
+{
+    let n = shape.p - 1;
+    let by_diagonal = u64::count_ones(rows) as usize;
+    n * n - by_diagonal * (n - by_diagonal)
+}
+
+// Plan: which rows of lost column k to take by diagonal and which by row, and how many distinct cells are then read.
+// Answers the plan, or refusal 1, 2, 3, 4 or 6.
+pub fn plan(shape: Shape, k: usize) -> PlanAnswer
+    ensures { λ r. ⌜ Plans shape k r ⌝ }
+{
+    let number = plan_refusal(shape, k);
+    if number != 0 {
+        return PlanAnswer::Refused(number);
+    }
+    let rows = rule_rows(shape, k);
+    let reads = reads_by(shape, rows);
+    PlanAnswer::Plan(ReadPlan { rows, reads })
+}
+
+// The number of the equation by which a plan takes row i of column k: its row, or its diagonal, i + k less p where that is p or more.
+fn equation_for(shape: Shape, k: usize, plan: u64, i: usize) -> usize
+    requires { ⌜ RdpColumn shape k × (i < rows shape) ⌝ }
+    ensures { λ r. ⌜ r ≡ chosen shape k plan i ⌝ }
+{
+    let p = shape.p;
+    if plan & solve::one_bit(i) == 0 {
+        return i;
+    }
+    let n = p - 1;
+    if k == p {
+        return n + i;
+    }
+    let d = i + k;
+    if d < p { n + d } else { n + (d - p) }
+}
+
+// Fills in where the cells of equation q other than cell `own` start, and answers how many they are.
+// The parity cell takes the place of a cell that the equation sums, so that one cell less than it holds is read.
+fn others_of(shape: Shape, q: usize, own: usize, places: &mut [usize; 32]) -> usize
+    requires { ⌜ Held shape q own × (length (now places) ≡ 32) ⌝ }
+    ensures { λ r. ⌜ OthersAt shape q own r (now (places .exit)) ⌝ }
+{
+    let from = codes::sources_of(shape, q, places);
+    let to = from.to;
+    let count = from.count;
+    let at = own * shape.cell;
+    if at == to {
+        return count;
+    }
+    let mut m = 0;
+    while places[m] != at {
+        m += 1;
+    }
+    places[m] = to;
+    count
+}
+
+// Rebuilds row i of column k into its part of the spare: the XOR of the other cells of the equation by which the plan takes it.
+fn rebuild_row(shape: Shape, stripe: &[u8], k: usize, plan: u64, i: usize, part: &mut [u8])
+    requires { ⌜ RowRight shape (length (now stripe)) k plan i × (length (now part) ≡ shape .cell) ⌝ }
+    ensures { λ _. ⌜ Put (now (part .entry)) 0 (shape .cell) (rebuiltByte shape k plan (now (stripe .entry)) i) (now (part .exit)) ⌝ }
+{
+    let q = equation_for(shape, k, plan, i);
+    let own = k * (shape.p - 1) + i;
+    let mut places = [0usize; 32];
+    let count = others_of(shape, q, own, &mut places);
+    let cell = shape.cell;
+    xor::put_sum_from(part, 0, stripe, &places[..count], 0, cell);
+}
+
+// Rebuilds n rows of the spare from the first on, each into its own part: no other byte of the spare changes.
+fn run_rows(
+    shape: Shape,
+    stripe: &[u8],
+    k: usize,
+    plan: u64,
+    spare: &mut [u8],
+    first: usize,
+    n: usize,
+)
+    requires { ⌜ RunRight shape (length (now stripe)) (length (now spare)) k plan first × (first + n ≤ rows shape) ⌝ }
+    ensures { λ _. ⌜ RowsRebuilt shape k plan first n (now (stripe .entry)) (now (spare .entry)) (now (spare .exit)) ⌝ }
+{
+    let cell = shape.cell;
+    let end = first + n;
+    let mut i = first;
+    while i < end {
+        let at = i * cell;
+        let to = at + cell;
+        rebuild_row(shape, stripe, k, plan, i, &mut spare[at..to]);
+        i += 1;
+    }
+}
+
+// How many rows are left from the first on.
+fn rows_left(shape: Shape, first: usize) -> usize
+    requires { ⌜ WellFormed shape × (shape .code ≡ 1) × (first < shape .p) ⌝ }
+    ensures { λ r. ⌜ r ≡ rows shape - first ⌝ }
+{
+    shape.p - 1 - first
+}
+
+// The smaller of two numbers.
+fn smaller(a: usize, b: usize) -> usize
+    ensures { λ r. ⌜ r ≡ min a b ⌝ }
+{
+    if a < b { a } else { b }
+}
+
+// Run by plan: rebuilds column k of an RDP stripe into the spare, from the first row on and at most as many rows as the budget.
+// Answers how many: the smaller of the budget and of the rows left; or refusal 1, 2, 3, 4, 5, 6 or 9, with every byte as it was.
+pub fn run(
+    shape: Shape,
+    stripe: &[u8],
+    k: usize,
+    plan: u64,
+    spare: &mut [u8],
+    first: usize,
+    budget: usize,
+) -> RunAnswer
+    ensures { λ r. ⌜ RunsByPlan shape k plan first budget (now (stripe .entry)) (now (spare .entry)) r (now (spare .exit)) ⌝ }
+{
+    let refusal = run_refusal(shape, stripe.len(), spare.len(), k, plan, first);
+    if refusal != 0 {
+        return RunAnswer::Refused(refusal);
+    }
+    let left = rows_left(shape, first);
+    let n = smaller(budget, left);
+    run_rows(shape, stripe, k, plan, spare, first, n);
+    RunAnswer::Rows(n)
+}
+
+// Where show finds the cell: in the stripe if its column is another than k, in the spare if its row is done; or why it is refused. For callers
+// that can't be handed a part.
+pub fn shown_at(
+    shape: Shape,
+    bytes: usize,
+    spare: usize,
+    k: usize,
+    done: usize,
+    row: usize,
+    column: usize,
+) -> ShownAt
+    ensures { λ r. ⌜ Shown shape bytes spare k done row column r ⌝ }
+{
+    let refusal = show_refusal(shape, bytes, spare, k, done, row, column);
+    if refusal != 0 {
+        return ShownAt::Refused(refusal);
+    }
+    if column == k {
+        return ShownAt::Spare(row * shape.cell);
+    }
+    ShownAt::Stripe(codes::cell_place(shape, row, column))
+}
+
+// Show: the cell in a row and a column while column k is being rebuilt and the rows below `done` are in the spare: that very part of the
+// stripe, or of the spare. An empty part where it is refused: show_reason tells why.
+pub fn show<'a>(
+    shape: Shape,
+    stripe: &'a [u8],
+    spare: &'a [u8],
+    k: usize,
+    done: usize,
+    row: usize,
+    column: usize,
+) -> &'a [u8]
+    ensures { λ r. ⌜ Shows shape k done row column (stripe .entry) (spare .entry) r ⌝ }
+{
+    let cell = shape.cell;
+    match shown_at(shape, stripe.len(), spare.len(), k, done, row, column) {
+        ShownAt::Stripe(at) => &stripe[at..at + cell],
+        ShownAt::Spare(at) => &spare[at..at + cell],
+        ShownAt::Refused(_) => &stripe[0..0],
+    }
+}
+
+// Why show gives an empty part: refusal 1, 2, 3, 4, 5, 6 or 10; 0 where it gives the cell.
+pub fn show_reason(
+    shape: Shape,
+    stripe: &[u8],
+    spare: &[u8],
+    k: usize,
+    done: usize,
+    row: usize,
+    column: usize,
+) -> usize
+    ensures { λ r. ⌜ r ≡ reason shape k done row column (stripe .entry) (spare .entry) ⌝ }
+{
+    show_refusal(shape, stripe.len(), spare.len(), k, done, row, column)
+}
