@@ -1,0 +1,10 @@
+-- The laws that proofs about the bytes of a job are made of.
+pub mod Bytes
+pub mod OneJob
+pub mod Places
+pub mod Reading
+pub mod LostNumbers
+pub mod Storing
+pub mod Answering
+pub mod OneAnswer
+pub mod AnswerFacts
