@@ -1,13 +1,16 @@
 /* The bridge: reads calls on standard input, makes them, writes the answers to
  * standard output. Every number is 64 bits, low byte first.
  *
- *   request  operation, shape (code, p, cell), row and column of a small write, the
- *            two columns of a rebuild, the loans of the stripe, of new bytes and of the
- *            list of lost cells, the `given` bytes of each
+ *   request  operation, shape (code, p, cell), row and column of a small write or a
+ *            show, the two columns of a rebuild, k, plan, first row and budget of a
+ *            run, rows done of a show, the loans, the `given` bytes of each
  *   answer   guards of each loan (0 unchanged, 1 changed before, 2 after, 3 both),
- *            refusal, count, finding, column, the `given` bytes of each after the call
+ *            refusal, count, finding, column, rows and reads of a plan, buffer, offset
+ *            and length of a part, the `given` bytes of each loan after the call
  *
- * A new operation is one more case in `carry_out`; one more lent buffer is one more
+ * The loans are of the stripe, of new bytes, of the list of lost cells and of the
+ * spare. A job is lent as new bytes are, and the output for its answer as the spare
+ * is. A new operation is one more case in `carry_out`; one more lent buffer is one more
  * loan. */
 #include "zijraduf.h"
 
@@ -34,25 +37,44 @@ enum place { MIDDLE, BEFORE_PAGE, AFTER_PAGE, NOWHERE };
 /* How bytes are lent: how many there are, the length that the call is told (of lost
  * cells: the count), and where they lie: in the middle at `offset` from a multiple of
  * 64, right before or right after an inaccessible page, or nowhere (NULL). Sealed
- * bytes and their guards can't be written during the call. */
+ * bytes and their guards can't be written during the call, and during a show, which
+ * reads no byte, not be read either. */
 struct loan {
     uint64_t given, claimed, place, offset, sealed;
 };
 
-enum operation { ENCODE = 1, BROKEN = 2, WRITE = 3, REBUILD_CELLS = 4, REBUILD_COLUMNS = 5, BAD_COLUMN = 6 };
+enum operation {
+    ENCODE = 1,
+    BROKEN = 2,
+    WRITE = 3,
+    REBUILD_CELLS = 4,
+    REBUILD_COLUMNS = 5,
+    BAD_COLUMN = 6,
+    PLAN = 7,
+    RUN = 8,
+    SHOW = 9,
+    JOB = 10,
+};
 
-enum { STRIPE, BYTES, LOST, LOANS };
+/* The longest job has five fields of a head and the most content, the longest answer two. */
+_Static_assert(ZIJRADUF_JOB_LONGEST == 5 * 3 + 1 + 1 + 2 + 2 * 2048 + 32768, "the longest job");
+_Static_assert(ZIJRADUF_ANSWER_LONGEST == 2 * 3 + 1 + 32768, "the longest answer");
+
+enum { STRIPE, BYTES, LOST, SPARE, LOANS };
 
 struct request {
     uint64_t operation;
     struct zijraduf_shape shape;
     uint64_t row, column, columns[2];
+    uint64_t k, plan, first, budget, done;
     struct loan loans[LOANS];
 };
 
-/* What a call doesn't give is 0. */
+/* What a call doesn't give is 0. A job gives the length of its answer; its refusal is
+ * read from the answer, where there was room for it. */
 struct answer {
     uint64_t guards[LOANS], refusal, count, finding, column;
+    uint64_t rows, reads, buffer, offset, length;
 };
 
 /* Memory between two inaccessible pages, and the bytes lent in it. */
@@ -124,8 +146,9 @@ static int is_sealed(const struct loan *loan) {
     return loan->sealed && loan->place != NOWHERE;
 }
 
-/* Takes the bytes of a loan into the room. Bytes that lie nowhere have no guards. */
-static void lend(struct room *room, const struct loan *loan) {
+/* Takes the bytes of a loan into the room, and sets the rights to sealed ones. Bytes
+ * that lie nowhere have no guards. */
+static void lend(struct room *room, const struct loan *loan, int sealed_rights) {
     if (loan->given > MOST || loan->offset >= 64 || loan->place > NOWHERE) exit(3);
     room->start = room->floor;
     if (loan->place == MIDDLE) room->start += GUARD + loan->offset;
@@ -133,7 +156,7 @@ static void lend(struct room *room, const struct loan *loan) {
     room->end = loan->place == NOWHERE ? room->floor + ROOM : room->start + loan->given;
     set_guards(room);
     if (loan->given > 0 && !take(room->start, loan->given)) exit(3);
-    if (is_sealed(loan)) set_rights(room, RIGHT_READ);
+    if (is_sealed(loan)) set_rights(room, sealed_rights);
 }
 
 static uint8_t *lent(const struct room *room, const struct loan *loan) {
@@ -148,19 +171,34 @@ static struct answer found(struct zijraduf_finding came) {
     return (struct answer){.refusal = came.refusal, .finding = came.finding, .column = came.column};
 }
 
+static struct answer planned(struct zijraduf_read_plan came) {
+    return (struct answer){.refusal = came.refusal, .rows = came.rows, .reads = came.reads};
+}
+
+static struct answer shown(struct zijraduf_part came) {
+    return (struct answer){
+        .refusal = came.refusal, .buffer = came.buffer, .offset = came.offset, .length = came.length};
+}
+
+static struct answer answered(size_t length, const uint8_t *output, size_t room) {
+    uint64_t refusal = length >= 4 && length <= room ? output[3] : 0;
+    return (struct answer){.refusal = refusal, .length = length};
+}
+
 static struct answer carry_out(const struct request *request, uint8_t *const lent[LOANS]) {
     struct zijraduf_shape shape = request->shape;
-    uint8_t *stripe = lent[STRIPE];
+    uint8_t *stripe = lent[STRIPE], *bytes = lent[BYTES], *spare = lent[SPARE];
     const uint64_t *lost = (const uint64_t *)(const void *)lent[LOST];
-    size_t length = request->loans[STRIPE].claimed, count = request->loans[LOST].claimed;
+    size_t length = request->loans[STRIPE].claimed, bytes_length = request->loans[BYTES].claimed;
+    size_t count = request->loans[LOST].claimed, spare_length = request->loans[SPARE].claimed;
     switch (request->operation) {
     case ENCODE:
         return (struct answer){.refusal = zijraduf_encode(shape, stripe, length)};
     case BROKEN:
         return counted(zijraduf_broken(shape, stripe, length));
     case WRITE:
-        return counted(zijraduf_write(shape, stripe, length, request->row, request->column, lent[BYTES],
-                                      request->loans[BYTES].claimed));
+        return counted(zijraduf_write(shape, stripe, length, request->row, request->column, bytes,
+                                      bytes_length));
     case REBUILD_CELLS:
         return (struct answer){.refusal = zijraduf_rebuild_cells(shape, stripe, length, lost, count)};
     case REBUILD_COLUMNS:
@@ -168,18 +206,29 @@ static struct answer carry_out(const struct request *request, uint8_t *const len
                                                                    request->columns[1])};
     case BAD_COLUMN:
         return found(zijraduf_bad_column(shape, stripe, length));
+    case PLAN:
+        return planned(zijraduf_plan(shape, request->k));
+    case RUN:
+        return counted(zijraduf_run(shape, stripe, length, request->k, request->plan, spare, spare_length,
+                                    request->first, request->budget));
+    case SHOW:
+        return shown(zijraduf_show(shape, stripe, length, spare, spare_length, request->k, request->done,
+                                   request->row, request->column));
+    case JOB:
+        return answered(zijraduf_job(bytes, bytes_length, spare, spare_length), spare, spare_length);
     }
     exit(3);
 }
 
 int main(void) {
-    struct room rooms[LOANS] = {make_room(), make_room(), make_room()};
+    struct room rooms[LOANS] = {make_room(), make_room(), make_room(), make_room()};
     struct request request;
     const struct loan *loans = request.loans;
     while (take(&request, sizeof request)) {
         uint8_t *at[LOANS];
+        int sealed_rights = request.operation == SHOW ? RIGHT_NONE : RIGHT_READ;
         for (int k = 0; k < LOANS; k++) {
-            lend(&rooms[k], &loans[k]);
+            lend(&rooms[k], &loans[k], sealed_rights);
             at[k] = lent(&rooms[k], &loans[k]);
         }
         /* The list is of 64-bit numbers: C wants it where such numbers may lie. */

@@ -1,8 +1,10 @@
 #!/bin/sh
 # Compares the library with the independent second program, call by call.
 #
-#   harness/compare.sh [--lib FILE] [--seed N] [--only N] [--long]
+#   harness/compare.sh [--lib FILE] [--seed N] [--only N] [--long] [--faults]
 #
+# --long makes some two million calls; --faults makes every call twice, with all that is
+# lent right before an inaccessible page, and right after one.
 # Without --lib the library is proved and built first.
 set -eu
 ROOT=$(cd "$(dirname "$0")/.." && pwd)
@@ -14,8 +16,8 @@ while [ $# -gt 0 ]; do
     case $1 in
     --lib) LIB=${2:?--lib wants a file}; shift 2 ;;
     --seed | --only) OPTIONS="$OPTIONS $1 ${2:?$1 wants a number}"; shift 2 ;;
-    --long) OPTIONS="$OPTIONS $1"; shift ;;
-    *) echo "usage: harness/compare.sh [--lib FILE] [--seed N] [--only N] [--long]" >&2; exit 2 ;;
+    --long | --faults) OPTIONS="$OPTIONS $1"; shift ;;
+    *) echo "usage: harness/compare.sh [--lib FILE] [--seed N] [--only N] [--long] [--faults]" >&2; exit 2 ;;
     esac
 done
 

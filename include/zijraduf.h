@@ -18,23 +18,29 @@
  *
  * Nothing has to be checked before a call. Every number may be anything, 0 and
  * 2^64 - 1 included. A call that can't be carried out gives a refusal number,
- * the lowest that applies, and every byte that was lent is as it was:
+ * the lowest that applies, and every byte that was lent is as it was (a job's
+ * refusal is its answer, which goes into the output):
  *
  *     1   code is not 1, 2 or 3
  *     2   p is not in the list above
+ *     3   plan, run or show for another code than RDP
  *     4   cell is not 1 to 4,096
- *     5   the stripe is not exactly rows x columns x cell bytes long
- *     6   a row, a column or a cell number is outside the stripe
+ *     5   the stripe is not exactly rows x columns x cell bytes long, or the spare
+ *         not exactly rows x cell
+ *     6   a row, a column or a cell number is outside the stripe; of a run the first
+ *         row, and of a show the rows done, is above p - 1
  *     7   a small write to a parity cell
  *     8   new bytes that are not one cell long
+ *     9   a plan that is not accepted
+ *     10  a show of a row that is not rebuilt yet
  *     11  undetermined: the cells that aren't lost don't fix the lost ones
  *     12  the cells that aren't lost disagree: no encoded stripe has their bytes
+ *     13  bytes that are no job (zijraduf_job alone)
  *
  * The one thing that C can't hand over checked is the memory itself: a pointer
  * points to as many bytes as the length beside it says, or as many numbers as
- * the count beside it says (it may be NULL where that is 0), and neither new
- * bytes nor the list of lost cells lie in the stripe. A call reads and writes
- * nothing else. */
+ * the count beside it says (it may be NULL where that is 0), and the memory lent
+ * to one call does not overlap. A call reads and writes nothing else. */
 #ifndef ZIJRADUF_H
 #define ZIJRADUF_H
 
@@ -130,6 +136,91 @@ struct zijraduf_finding {
  * Gives the finding, or refusal 1, 2, 4 or 5. */
 struct zijraduf_finding zijraduf_bad_column(struct zijraduf_shape shape, const uint8_t *stripe,
                                             size_t length);
+
+/* ---- RDP with one lost column: plan, run, show. The lost column is k, 0 to p;
+ * the spare is one column, row i of it at i x cell. */
+
+/* A refusal number, or 0 and a plan: bit i of `rows` is 1 where row i is taken by
+ * its diagonal, and 0 where by its row. `reads` is how many distinct cells a
+ * rebuild by this plan reads. Both are 0 where the call is refused. */
+struct zijraduf_read_plan {
+    uint64_t refusal;
+    uint64_t rows;
+    uint64_t reads;
+};
+
+/* Plan: what to read to rebuild column k. For k below p the lowest (p - 1) / 2 rows
+ * other than row p - 1 - k are taken by their diagonals (for k = 0 no row is left
+ * out), which reads 3 (p - 1)^2 / 4 cells, a quarter less than by rows alone; for
+ * k = p all rows are, which reads (p - 1)^2. The bits that are 1 are as many as the
+ * rows taken by diagonal.
+ * Gives the plan, or refusal 1, 2, 3, 4 or 6. */
+struct zijraduf_read_plan zijraduf_plan(struct zijraduf_shape shape, uint64_t k);
+
+/* Run: rebuilds rows of column k into the spare by a plan, from the first row on
+ * upward: as many as the budget says, or as are left. Call it again with the first
+ * row moved on by the count, until no row is left. A row is the XOR of the other
+ * cells of its equation, its diagonal where the plan's bit is 1 and its row where it
+ * is 0: of an encoded stripe that is what column k held. The bytes found in
+ * column k have no effect, the stripe is only read, and no other byte of the
+ * spare changes. The plan need not be zijraduf_plan's: it is accepted exactly when
+ * it has no bit above p - 2, no diagonal for row p - 1 - k if k is 1 to p - 1, and
+ * all p - 1 bits if k = p. First row p - 1 is allowed and leaves nothing to do.
+ * Gives how many rows it rebuilt, or refusal 1, 2, 3, 4, 5, 6 or 9 with every byte
+ * as it was. */
+struct zijraduf_count zijraduf_run(struct zijraduf_shape shape, const uint8_t *stripe, size_t length,
+                                   uint64_t k, uint64_t plan, uint8_t *spare, size_t spare_length,
+                                   uint64_t first, uint64_t budget);
+
+/* Which of the two lent buffers a shown cell lies in. */
+enum {
+    ZIJRADUF_IN_STRIPE = 1,
+    ZIJRADUF_IN_SPARE = 2
+};
+
+/* A refusal number, or 0 and the part of a lent buffer that is the cell: it starts
+ * `offset` bytes into the stripe or the spare and is `length` bytes long. Where the
+ * call is refused the other three are 0: an empty part of neither. */
+struct zijraduf_part {
+    uint64_t refusal;
+    uint64_t buffer; /* ZIJRADUF_IN_STRIPE or ZIJRADUF_IN_SPARE */
+    uint64_t offset;
+    uint64_t length;
+};
+
+/* Show: where to read a cell while column k is being rebuilt and the rows below
+ * `done` are in the spare: in the stripe if its column is another, in the spare if
+ * its row is done. C can't be handed a part of a buffer, so this says which buffer,
+ * where the part starts and how long it is. No byte of either is read.
+ * Gives the part, or refusal 1, 2, 3, 4, 5, 6 or 10. */
+struct zijraduf_part zijraduf_show(struct zijraduf_shape shape, const uint8_t *stripe, size_t length,
+                                   const uint8_t *spare, size_t spare_length, uint64_t k,
+                                   uint64_t done, uint64_t row, uint64_t column);
+
+/* ---- jobs */
+
+enum {
+    ZIJRADUF_JOB_LONGEST = 36883,   /* bytes of the longest job */
+    ZIJRADUF_ANSWER_LONGEST = 32775 /* bytes of the longest answer */
+};
+
+/* Job: reads a rebuild job from bytes, rebuilds, and writes the answer's bytes.
+ *
+ * A field is a tag of one byte, a length of two bytes, high byte first, and the
+ * content. A job is these fields in this order, once each, and nothing after them:
+ *
+ *     01  code, 1 byte
+ *     02  p, 1 byte
+ *     03  cell size, 2 bytes, high byte first; it may be absent, then it is 512
+ *     04  lost cell numbers, 2 bytes each, high byte first, none to 2,048 of them
+ *     05  stripe, at most 32,768 bytes
+ *
+ * The answer is field 06, one byte: 0, or the refusal number of the rebuild of these
+ * cells (1, 2, 4, 5, 6, 11 or 12), or 13 where the bytes are no job. After 0 field 05
+ * follows with the stripe.
+ * Returns how long the answer is. Where `room` is no less, the output begins with
+ * the answer and its other bytes are as they were; else all are. */
+size_t zijraduf_job(const uint8_t *input, size_t length, uint8_t *output, size_t room);
 
 #ifdef __cplusplus
 }

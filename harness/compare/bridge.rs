@@ -24,11 +24,12 @@ pub struct Loan {
 }
 
 /// What came back: which guard bytes changed (0 none, 1 before, 2 after, 3 both),
-/// the answer, and the lent bytes; of the stripe, of the new bytes, of the list.
+/// the answer, and the lent bytes; of the stripe, of the new bytes, of the list, of
+/// the spare.
 pub struct Reply {
-    pub guards: [u64; 3],
+    pub guards: [u64; 4],
     pub answer: Answer,
-    pub lent: [Vec<u8>; 3],
+    pub lent: [Vec<u8>; 4],
 }
 
 pub struct Bridge {
@@ -56,12 +57,11 @@ impl Bridge {
         let Shape { code, p, cell } = call.shape;
         let [a, b] = call.columns;
         let mut request = vec![call.operation as u64, code, p, cell, call.row, call.column, a, b];
+        request.extend([call.k, call.plan, call.first, call.budget, call.done]);
         let list: Vec<u8> = lent.lost.iter().flat_map(|n| n.to_le_bytes()).collect();
-        for (loan, claimed, bytes) in [
-            (case.stripe, call.length, &lent.stripe),
-            (case.bytes, call.bytes_length, &lent.bytes),
-            (case.list, lent.count, &list),
-        ] {
+        let all: [&[u8]; 4] = [&lent.stripe, &lent.bytes, &list, &lent.spare];
+        let loans = [case.stripe, case.bytes, case.list, case.spare];
+        for ((loan, claimed), bytes) in loans.into_iter().zip(case.claimed(lent)).zip(all) {
             let (place, offset) = match loan.place {
                 Place::Middle(offset) => (0, offset),
                 Place::BeforePage => (1, 0),
@@ -71,22 +71,24 @@ impl Bridge {
             request.extend([bytes.len() as u64, claimed, place, offset, loan.sealed as u64]);
         }
         let head: Vec<u8> = request.into_iter().flat_map(u64::to_le_bytes).collect();
-        self.exchange(&head, [&lent.stripe, &lent.bytes, &list]).map_err(|_| {
+        self.exchange(&head, all).map_err(|_| {
             let status = self.child.wait().map_or("lost".into(), |status| status.to_string());
             format!("the bridge ended in the call ({status})")
         })
     }
 
-    fn exchange(&mut self, head: &[u8], lent: [&[u8]; 3]) -> io::Result<Reply> {
-        self.input.write_all(&[head, lent[0], lent[1], lent[2]].concat())?;
-        let mut head = [[0; 8]; 7];
+    fn exchange(&mut self, head: &[u8], lent: [&[u8]; 4]) -> io::Result<Reply> {
+        self.input.write_all(&[head, lent[0], lent[1], lent[2], lent[3]].concat())?;
+        let mut head = [[0; 8]; 13];
         self.output.read_exact(head.as_flattened_mut())?;
-        let [g0, g1, g2, refusal, count, finding, column] = head.map(u64::from_le_bytes);
+        let [g0, g1, g2, g3, refusal, count, finding, column, rows, reads, buffer, offset, length] =
+            head.map(u64::from_le_bytes);
         let mut lent = lent.map(|bytes| vec![0; bytes.len()]);
         for bytes in &mut lent {
             self.output.read_exact(bytes)?;
         }
-        Ok(Reply { guards: [g0, g1, g2], answer: Answer { refusal, count, finding, column }, lent })
+        let answer = Answer { refusal, count, finding, column, rows, reads, buffer, offset, length };
+        Ok(Reply { guards: [g0, g1, g2, g3], answer, lent })
     }
 
     /// Lets the bridge end, and has it end well.

@@ -2,12 +2,13 @@
 //! without --long.
 
 use crate::bridge::{Loan, Place};
+use crate::fields::{Room, Sent};
 use crate::fills::Fill;
 use crate::lists::{Lost, Odd};
 use crate::random::Random;
 use crate::second::{Answer, Call, Layout, Operation, Second, Shape, CLEAN, COLUMN, PRIMES};
 use crate::written::WRITTEN;
-use Operation::{BadColumn, Broken, Encode, RebuildCells, RebuildColumns, Write};
+use Operation::{BadColumn, Broken, Encode, Job, Plan, RebuildCells, RebuildColumns, Run, Show, Write};
 
 /// The new bytes of a small write: random, those that the cell holds, or those with
 /// one of them changed.
@@ -18,37 +19,50 @@ pub enum New {
     OneByte,
 }
 
-/// A call, and how the stripe, the new bytes and the list of lost cells are filled
-/// and lent.
+/// Whether a run is one call, or is called again until no row is left: with the same
+/// budget, or with a random one each time.
+#[derive(Clone, Copy, PartialEq, Debug)]
+pub enum Pieces {
+    One,
+    Same,
+    Random,
+}
+
+/// A call, and how the stripe, the new bytes, the list of lost cells and the spare are
+/// filled and lent. A job is sent as new bytes, and its answer comes in the spare.
 #[derive(Clone, Copy)]
 pub struct Case {
     pub call: Call,
     pub fill: Fill,
     pub new: New,
     pub lost: Lost,
+    pub pieces: Pieces,
+    pub sent: Sent,
     pub stripe: Loan,
     pub bytes: Loan,
     pub list: Loan,
+    pub spare: Loan,
 }
 
 /// What is lent: the stripe, the new bytes, the list of lost cells, and the count that
-/// the call is told with it.
+/// the call is told with it, and the spare. What a call isn't lent is empty.
 pub struct Lent {
     pub stripe: Vec<u8>,
     pub bytes: Vec<u8>,
     pub lost: Vec<u64>,
     pub count: u64,
+    pub spare: Vec<u8>,
     /// The stripe before cells were lost.
     pub whole: Vec<u8>,
 }
 
 // Good and bad parameters. The large ones look like good ones when cut short.
-const CODES: [u64; 8] = [0, 1, 2, 3, 4, 0x101, 0x1_0000_0001, u64::MAX];
-const SOME_P: [u64; 24] = [
+pub const CODES: [u64; 8] = [0, 1, 2, 3, 4, 0x101, 0x1_0000_0001, u64::MAX];
+pub const SOME_P: [u64; 24] = [
     0, 1, 2, 3, 4, 6, 7, 8, 9, 15, 21, 25, 27, 30, 31, 32, 33, 35, 37, 67, 0x103, 0x1_0005, 0x1_0000_0005,
     u64::MAX,
 ];
-const SOME_CELLS: [u64; 8] = [0, 1, 2, 4096, 4097, 0x1_0001, 0x1_0000_0001, u64::MAX];
+pub const SOME_CELLS: [u64; 8] = [0, 1, 2, 4096, 4097, 0x1_0001, 0x1_0000_0001, u64::MAX];
 const SMALL_CELLS: [u64; 10] = [1, 2, 3, 7, 31, 64, 127, 128, 129, 255];
 const LARGE_CELLS: [u64; 3] = [512, 1000, 4096];
 
@@ -83,6 +97,10 @@ impl All<'_> {
         cases.writes();
         cases.rebuilds();
         cases.findings();
+        cases.plans();
+        cases.runs();
+        cases.shows();
+        cases.jobs();
         All { second, seed, listed: cases.list }
     }
 
@@ -97,13 +115,27 @@ impl All<'_> {
         }
         let mut cases =
             Cases { second: self.second, random: Random::new(!self.seed, n as u64), list: Vec::new() };
-        match n % 6 {
+        match n % 9 {
             0 | 1 => cases.random_call(),
             2 => cases.random_write(),
             3 | 4 => cases.random_rebuild(),
-            _ => cases.random_finding(),
+            5 => cases.random_finding(),
+            6 => cases.random_run(),
+            7 => cases.random_plan_or_show(),
+            _ => cases.random_job(),
         }
         cases.list[0]
+    }
+
+    /// The numbers of the jobs: those listed, without those that differ in room alone,
+    /// and `random` random ones.
+    pub fn jobs(&self, random: usize) -> Vec<usize> {
+        let is_job = |&n: &usize| {
+            let case = self.case(n);
+            case.call.operation == Job && (case.sent.room == Room::Enough || n > self.listed())
+        };
+        let listed = (1..=self.listed()).filter(is_job);
+        listed.chain((self.listed() + 1..).filter(is_job).take(random)).collect()
     }
 }
 
@@ -135,14 +167,28 @@ pub struct Cases<'a> {
 }
 
 impl Cases<'_> {
-    /// Lends in any place, at times NULL where there is nothing to lend; the list of
-    /// lost cells always sealed.
+    /// Lends in any place, at times NULL where there is nothing to lend; always sealed
+    /// are the list of lost cells, a job, and what a run and a show only read.
     pub fn case(&mut self, call: Call, fill: Fill) -> Case {
-        let stripe = Loan { place: self.place(call.length), sealed: self.random.below(4) == 0 };
-        let bytes = if call.operation == Write { self.place(call.bytes_length) } else { Place::Null };
-        let bytes = Loan { place: bytes, sealed: self.random.below(2) == 0 };
+        let operation = call.operation;
+        let sealed = operation.of_rdp() || self.random.below(4) == 0;
+        let stripe = if matches!(operation, Plan | Job) { Place::Null } else { self.place(call.length) };
+        let stripe = Loan { place: stripe, sealed };
+        let bytes = match operation {
+            Write => self.place(call.bytes_length),
+            Job => self.place(1),
+            _ => Place::Null,
+        };
+        let bytes = Loan { place: bytes, sealed: operation == Job || self.random.below(2) == 0 };
         let list = Loan { place: Place::Null, sealed: true };
-        Case { call, fill, new: New::Random, lost: Lost::NONE, stripe, bytes, list }
+        let spare = match operation {
+            Run | Show => self.place(call.spare_length),
+            Job => self.place(1),
+            _ => Place::Null,
+        };
+        let spare = Loan { place: spare, sealed: operation == Show || self.random.below(2) == 0 };
+        let (lost, sent) = (Lost::NONE, Sent::PLAIN);
+        Case { call, fill, new: New::Random, lost, pieces: Pieces::One, sent, stripe, bytes, list, spare }
     }
 
     fn place(&mut self, length: u64) -> Place {
@@ -317,6 +363,15 @@ fn lent_length(claimed: u64) -> usize {
 }
 
 impl Case {
+    /// Lends all that is lent on one side of an inaccessible page, and sealed.
+    pub fn press(&mut self, side: Place) {
+        for loan in [&mut self.stripe, &mut self.bytes, &mut self.list, &mut self.spare] {
+            if loan.place != Place::Null {
+                *loan = Loan { place: side, sealed: true };
+            }
+        }
+    }
+
     /// What is lent to the call of case number `n`.
     pub fn lent(&self, second: &Second, seed: u64, n: usize) -> Lent {
         let mut random = Random::new(seed, n as u64);
@@ -330,14 +385,80 @@ impl Case {
             _ => self.lost.list(&cells, layout, &mut random),
         };
         let mut stripe = whole.clone();
-        if second.refusal(&self.call, &lost) == 0 {
+        if second.refusal(&self.asked(), &lost) == 0 {
             if self.call.operation == RebuildColumns {
                 let [a, b] = self.call.columns.map(|n| n as usize);
                 cells = layout.in_columns(a, b);
             }
             self.lost.put_found(&cells, cell as usize, &mut stripe, &mut random);
         }
-        Lent { stripe, bytes, count: self.lost.count(&lost), lost, whole }
+        let spare = self.spare(&mut random);
+        let lent = Lent { stripe, bytes, count: self.lost.count(&lost), lost, spare, whole };
+        match self.call.operation {
+            Job => self.send(lent, second, &mut random),
+            RebuildCells => lent,
+            _ => Lent { lost: Vec::new(), count: 0, ..lent },
+        }
+    }
+
+    /// The call, or of a job the rebuild that it asks for.
+    fn asked(&self) -> Call {
+        match self.call.operation {
+            Job => Call { operation: RebuildCells, ..self.call },
+            _ => self.call,
+        }
+    }
+
+    /// A job and the room for its answer, made of what a rebuild would be lent.
+    fn send(&self, lent: Lent, second: &Second, random: &mut Random) -> Lent {
+        let Lent { stripe, bytes, lost, spare, whole, .. } = lent;
+        let (bytes, spare) = match self.fill {
+            Fill::Written(_) => (bytes, spare),
+            _ => {
+                let bytes = self.sent.bytes(self.call.shape, &lost, &stripe, random);
+                let answer = second.answer(&bytes).map_or(0, |answer| answer.len());
+                let mut room = vec![0; self.sent.room.size(answer)];
+                random.fill(&mut room);
+                (bytes, room)
+            }
+        };
+        Lent { stripe: Vec::new(), bytes, lost: Vec::new(), count: 0, spare, whole }
+    }
+
+    /// The lengths that the call is told; of a job they are as they are.
+    pub fn claimed(&self, lent: &Lent) -> [u64; 4] {
+        match self.call.operation {
+            Job => [0, lent.bytes.len() as u64, 0, lent.spare.len() as u64],
+            _ => [self.call.length, self.call.bytes_length, lent.count, self.call.spare_length],
+        }
+    }
+
+    /// Moves a run on by the rows rebuilt. Gives whether there is a next piece of it.
+    pub fn go_on(&mut self, rebuilt: u64, random: &mut Random) -> bool {
+        if self.pieces == Pieces::One {
+            return false;
+        }
+        let rows = self.call.shape.p - 1;
+        self.call.first += rebuilt;
+        if self.pieces == Pieces::Random {
+            self.call.budget = random.below(rows as usize + 1) as u64;
+        }
+        self.call.first < rows
+    }
+
+    /// The lost column, as it was.
+    pub fn column<'a>(&self, lent: &'a Lent) -> &'a [u8] {
+        let length = lent.spare.len();
+        &lent.whole[self.call.k as usize * length..][..length]
+    }
+
+    fn spare(&self, random: &mut Random) -> Vec<u8> {
+        if let Fill::Written(n) = self.fill {
+            return WRITTEN[n].spare.to_vec();
+        }
+        let mut spare = vec![0; lent_length(self.call.spare_length)];
+        random.fill(&mut spare);
+        spare
     }
 
     fn stripe(&self, second: &Second, random: &mut Random) -> Vec<u8> {
@@ -363,7 +484,7 @@ impl Case {
         let mut bytes = vec![0; lent_length(self.call.bytes_length)];
         random.fill(&mut bytes);
         if let Fill::Written(n) = self.fill {
-            bytes.copy_from_slice(WRITTEN[n].bytes);
+            bytes = WRITTEN[n].bytes.to_vec();
         }
         if self.new != New::Random && second.refusal(&self.call, &[]) == 0 {
             let layout = second.layout(shape.code, shape.p).expect("a good shape");
@@ -382,9 +503,13 @@ impl Case {
     pub fn known(&self, second: &Second) -> Option<Answer> {
         let Shape { code, p, .. } = self.call.shape;
         let layout = second.layout(code, p)?;
-        if second.refusal(&self.call, &[]) != 0 || self.lost.odd != Odd::Nothing {
+        if second.refusal(&self.asked(), &[]) != 0 || self.lost.odd != Odd::Nothing {
             return None;
         }
+        if self.call.operation == Job {
+            return self.known_job(layout);
+        }
+        let (rows, k) = (layout.rows as u64, self.call.k);
         let (encoded, [a, b]) = (self.fill == Fill::Encoded, self.call.columns);
         match (self.call.operation, self.fill) {
             (BadColumn, Fill::Encoded) => Some(Answer::found(CLEAN, 0)),
@@ -397,7 +522,21 @@ impl Case {
                 Some(true) if encoded => Some(Answer::refused(0)),
                 _ => None,
             },
+            (Plan, _) => {
+                let reads = if k == p { rows * rows } else { 3 * rows * rows / 4 };
+                Some(Answer::planned(layout.rule(k as usize), reads))
+            }
             _ => None,
+        }
+    }
+
+    /// As for the rebuild of these cells, where the job says so and there is room.
+    fn known_job(&self, layout: &Layout) -> Option<Answer> {
+        let plain = self.sent.is_plain(self.call.shape) && self.sent.room == Room::Enough;
+        match self.lost.determined(layout).filter(|_| plain)? {
+            false => Some(Answer::answered(11, 4)),
+            true if self.fill == Fill::Encoded => Some(Answer::answered(0, 7 + self.call.length)),
+            true => None,
         }
     }
 }

@@ -14,17 +14,20 @@ pub struct Lost {
     pub odd: Odd,
 }
 
-/// `Determined` is a largest set that is determined, taken at random.
+/// `Determined` is a largest set that is determined, taken at random. `Unread` is all
+/// that a plan for a lost column doesn't read, that column among it.
 #[derive(Clone, Copy, PartialEq, Debug)]
 pub enum Base {
     Empty,
     Cell(usize),
     Columns(usize, usize),
     Determined,
+    Unread(usize, u64),
 }
 
 /// The order of the list. `Doubled` names some cells twice; `Long` and `Huge` name them
-/// again and again, until there are more numbers than the stripe has cells.
+/// again and again, until there are more numbers than the stripe has cells; `Filled`
+/// does so until there are that many.
 #[derive(Clone, Copy, PartialEq, Debug)]
 pub enum Form {
     Rising,
@@ -33,6 +36,7 @@ pub enum Form {
     Doubled,
     Long,
     Huge,
+    Filled(usize),
 }
 
 pub const FORMS: [Form; 5] = [Form::Rising, Form::Falling, Form::Shuffled, Form::Doubled, Form::Long];
@@ -71,6 +75,7 @@ impl Lost {
             Base::Cell(n) => vec![n],
             Base::Columns(a, b) => layout.in_columns(a, b),
             Base::Determined => determined(layout, random),
+            Base::Unread(k, plan) => unread(layout, k, plan),
         };
         let base = cells.clone();
         random.shuffle(&mut cells);
@@ -92,6 +97,7 @@ impl Lost {
             Base::Cell(_) => self.more <= 1,
             Base::Columns(a, b) => self.more <= (a == b) as usize,
             Base::Determined => self.more == 0,
+            Base::Unread(..) => false,
         };
         let largest = match self.base {
             Base::Columns(a, b) => a != b,
@@ -115,6 +121,7 @@ impl Lost {
             Form::Doubled => 1 + random.below(cells.len()),
             Form::Long => layout.cells() + 1 + random.below(layout.cells()),
             Form::Huge => 100_000,
+            Form::Filled(numbers) => numbers.saturating_sub(cells.len()),
             _ => 0,
         };
         list.extend((0..again).map(|_| cells[random.below(cells.len())] as u64));
@@ -150,6 +157,12 @@ impl Lost {
             }
         }
     }
+}
+
+fn unread(layout: &Layout, k: usize, plan: u64) -> Vec<usize> {
+    let read = layout.reads(k, plan).expect("an accepted plan");
+    let positions = (0..layout.cells()).map(|n| (n % layout.rows, n / layout.rows));
+    positions.filter(|position| !read.contains(position)).map(|position| layout.number(position)).collect()
 }
 
 /// Goes through the cells in random order and keeps each one whose equations are not

@@ -298,7 +298,7 @@ impl Cases<'_> {
 
 /// Numbers past the end, most of them made of a good one. A good one and 256 may still
 /// be inside.
-fn outside(good: u64, end: u64) -> Vec<u64> {
+pub fn outside(good: u64, end: u64) -> Vec<u64> {
     let far = [8, 16, 32, 52, 55, 58, 60, 61, 62, 63].map(|bits| good + (1 << bits));
     [end, end + 1, u64::MAX - 1, u64::MAX].into_iter().chain(far).collect()
 }

@@ -21,11 +21,49 @@ pub enum Operation {
     RebuildCells = 4,
     RebuildColumns = 5,
     BadColumn = 6,
+    Plan = 7,
+    Run = 8,
+    Show = 9,
+    Job = 10,
 }
 
+pub const OPERATIONS: [Operation; 10] = [
+    Operation::Encode,
+    Operation::Broken,
+    Operation::Write,
+    Operation::RebuildCells,
+    Operation::RebuildColumns,
+    Operation::BadColumn,
+    Operation::Plan,
+    Operation::Run,
+    Operation::Show,
+    Operation::Job,
+];
+
 impl Operation {
+    /// Leaves every stripe as it is.
     pub fn only_reads(self) -> bool {
-        matches!(self, Operation::Broken | Operation::BadColumn)
+        matches!(self, Operation::Broken | Operation::BadColumn) || self.of_rdp()
+    }
+
+    /// Carried out for RDP alone.
+    pub fn of_rdp(self) -> bool {
+        matches!(self, Operation::Plan | Operation::Run | Operation::Show)
+    }
+
+    /// The refusals and findings that can come.
+    pub fn answers(self) -> &'static [(u64, u64)] {
+        match self {
+            Operation::Encode | Operation::Broken => &[(0, 0), (1, 0), (2, 0), (4, 0), (5, 0)],
+            Operation::Write => &[(0, 0), (1, 0), (2, 0), (4, 0), (5, 0), (6, 0), (7, 0), (8, 0)],
+            Operation::RebuildCells => &[(0, 0), (1, 0), (2, 0), (4, 0), (5, 0), (6, 0), (11, 0), (12, 0)],
+            Operation::RebuildColumns => &[(0, 0), (1, 0), (2, 0), (4, 0), (5, 0), (6, 0), (12, 0)],
+            Operation::BadColumn => &[(0, 1), (0, 2), (0, 3), (1, 0), (2, 0), (4, 0), (5, 0)],
+            Operation::Plan => &[(0, 0), (1, 0), (2, 0), (3, 0), (4, 0), (6, 0)],
+            Operation::Run => &[(0, 0), (1, 0), (2, 0), (3, 0), (4, 0), (5, 0), (6, 0), (9, 0)],
+            Operation::Show => &[(0, 0), (1, 0), (2, 0), (3, 0), (4, 0), (5, 0), (6, 0), (10, 0)],
+            Operation::Job => &[(0, 0), (1, 0), (2, 0), (4, 0), (5, 0), (6, 0), (11, 0), (12, 0), (13, 0)],
+        }
     }
 
     pub fn rebuilds(self) -> bool {
@@ -33,8 +71,10 @@ impl Operation {
     }
 }
 
-/// What a call is told beside the bytes. Row, column and the length of the new
-/// bytes are for a small write, the columns for a rebuild of columns.
+/// What a call is told beside the bytes. Row and column are for a small write and a
+/// show, the length of the new bytes for a small write, the columns for a rebuild of
+/// columns; k is the lost column of a plan, a run and a show; plan, first row and budget
+/// are for a run, the rows done for a show.
 #[derive(Clone, Copy)]
 pub struct Call {
     pub operation: Operation,
@@ -44,27 +84,58 @@ pub struct Call {
     pub column: u64,
     pub bytes_length: u64,
     pub columns: [u64; 2],
+    pub spare_length: u64,
+    pub k: u64,
+    pub plan: u64,
+    pub first: u64,
+    pub budget: u64,
+    pub done: u64,
 }
 
 impl Call {
     pub const fn new(operation: Operation, shape: Shape, length: u64) -> Call {
-        Call { operation, shape, length, row: 0, column: 0, bytes_length: 0, columns: [0, 0] }
+        Call {
+            operation,
+            shape,
+            length,
+            row: 0,
+            column: 0,
+            bytes_length: 0,
+            columns: [0, 0],
+            spare_length: 0,
+            k: 0,
+            plan: 0,
+            first: 0,
+            budget: 0,
+            done: 0,
+        }
     }
 }
 
-/// What a call doesn't give is 0.
+/// What a call doesn't give is 0. Of a job it is the refusal in its answer, where there
+/// is room for that, and the answer's length.
 #[derive(Clone, Copy, PartialEq, Debug)]
 pub struct Answer {
     pub refusal: u64,
     pub count: u64,
     pub finding: u64,
     pub column: u64,
+    pub rows: u64,
+    pub reads: u64,
+    pub buffer: u64,
+    pub offset: u64,
+    pub length: u64,
 }
 
 impl fmt::Display for Answer {
+    /// The refusal, and whatever else is not 0.
     fn fmt(&self, to: &mut fmt::Formatter) -> fmt::Result {
-        let Answer { refusal, count, finding, column } = self;
-        write!(to, "refusal {refusal} count {count} finding {finding} column {column}")
+        let Answer { refusal, count, finding, column, rows, reads, buffer, offset, length } = *self;
+        write!(to, "refusal {refusal}")?;
+        let named = [("count", count), ("finding", finding), ("column", column), ("rows", rows)];
+        let more = [("reads", reads), ("buffer", buffer), ("offset", offset), ("length", length)];
+        let mut given = named.into_iter().chain(more).filter(|(_, n)| *n != 0);
+        given.try_for_each(|(name, n)| write!(to, " {name} {n}"))
     }
 }
 
@@ -72,17 +143,33 @@ pub const CLEAN: u64 = 1;
 pub const COLUMN: u64 = 2;
 pub const UNEXPLAINED: u64 = 3;
 
+pub const IN_STRIPE: u64 = 1;
+pub const IN_SPARE: u64 = 2;
+
 impl Answer {
     pub const fn refused(refusal: u64) -> Answer {
-        Answer { refusal, count: 0, finding: 0, column: 0 }
+        let [count, finding, column, rows, reads, buffer, offset, length] = [0; 8];
+        Answer { refusal, count, finding, column, rows, reads, buffer, offset, length }
     }
 
     pub const fn counted(count: u64) -> Answer {
-        Answer { refusal: 0, count, finding: 0, column: 0 }
+        Answer { count, ..Answer::refused(0) }
     }
 
     pub const fn found(finding: u64, column: u64) -> Answer {
-        Answer { refusal: 0, count: 0, finding, column }
+        Answer { finding, column, ..Answer::refused(0) }
+    }
+
+    pub const fn planned(rows: u64, reads: u64) -> Answer {
+        Answer { rows, reads, ..Answer::refused(0) }
+    }
+
+    pub const fn part(buffer: u64, offset: u64, length: u64) -> Answer {
+        Answer { buffer, offset, length, ..Answer::refused(0) }
+    }
+
+    pub const fn answered(refusal: u64, length: u64) -> Answer {
+        Answer { length, ..Answer::refused(refusal) }
     }
 }
 
@@ -180,7 +267,7 @@ impl Layout {
         (0..self.cells()).filter(|n| [a, b].contains(&(n / self.rows))).collect()
     }
 
-    fn xor(&self, sources: &[Position], cell: usize, stripe: &[u8]) -> Vec<u8> {
+    pub fn xor(&self, sources: &[Position], cell: usize, stripe: &[u8]) -> Vec<u8> {
         let mut sum = vec![0; cell];
         for &source in sources {
             let start = self.start(source, cell);
@@ -241,18 +328,26 @@ impl Second {
         Some(layout.cells() as u64 * cell)
     }
 
-    /// The lowest refusal number that applies before the bytes are looked at, or 0.
+    /// The lowest refusal number that applies before the bytes are looked at, or 0. Not
+    /// for a job, which tells all of them in its bytes.
     pub fn refusal(&self, call: &Call, lost: &[u64]) -> u64 {
         let shape = call.shape;
         let Some(layout) = self.layout(shape.code, shape.p) else {
             return if (1..=3).contains(&shape.code) { 2 } else { 1 };
         };
-        if !(1..=4096).contains(&shape.cell) {
+        let stripe_lent = call.operation != Operation::Plan;
+        let spare_lent = matches!(call.operation, Operation::Run | Operation::Show);
+        if call.operation.of_rdp() && shape.code != 1 {
+            3
+        } else if !(1..=4096).contains(&shape.cell) {
             4
-        } else if self.length(shape) != Some(call.length) {
+        } else if stripe_lent && call.length != layout.cells() as u64 * shape.cell
+            || spare_lent && call.spare_length != layout.rows as u64 * shape.cell
+        {
             5
         } else {
             match call.operation {
+                Operation::Plan | Operation::Run | Operation::Show => layout.spare_refusal(call),
                 Operation::Write => write_refusal(call, layout),
                 Operation::RebuildCells if lost.iter().any(|&n| n >= layout.cells() as u64) => 6,
                 Operation::RebuildColumns if call.columns.iter().any(|&n| n >= layout.columns as u64) => 6,
@@ -261,9 +356,20 @@ impl Second {
         }
     }
 
-    /// Makes a call with a stripe, new bytes and a list of lost cells. Fails where the
-    /// scope document's own words contradict each other.
-    pub fn call(&self, call: &Call, stripe: &mut [u8], bytes: &[u8], lost: &[u64]) -> Result<Answer, String> {
+    /// Makes a call with a stripe, new bytes, a list of lost cells and a spare; a job is
+    /// given as the new bytes, and its output as the spare. Fails where the scope
+    /// document's own words contradict each other.
+    pub fn call(
+        &self,
+        call: &Call,
+        stripe: &mut [u8],
+        bytes: &[u8],
+        lost: &[u64],
+        spare: &mut [u8],
+    ) -> Result<Answer, String> {
+        if call.operation == Operation::Job {
+            return self.job(bytes, spare);
+        }
         let refusal = self.refusal(call, lost);
         let (0, Some(layout)) = (refusal, self.layout(call.shape.code, call.shape.p)) else {
             return Ok(Answer::refused(refusal));
@@ -292,6 +398,10 @@ impl Second {
                 }
             }
             Operation::BadColumn => bad_column(layout, cell, stripe),
+            Operation::Plan => layout.plan(call.k as usize),
+            Operation::Run => layout.run(call, stripe, spare),
+            Operation::Show => Ok(layout.show(call)),
+            Operation::Job => unreachable!("a job has no shape of its own"),
         }
     }
 }

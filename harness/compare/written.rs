@@ -1,7 +1,7 @@
 //! The scope document's stripes to try, with the answers that it gives.
 
 use crate::second::{Answer, Call, Operation, Shape, CLEAN, COLUMN, UNEXPLAINED};
-use Operation::{BadColumn, Broken, Encode, RebuildCells, RebuildColumns, Write};
+use Operation::{BadColumn, Broken, Encode, Job, Plan, RebuildCells, RebuildColumns, Run, Write};
 
 pub struct Written {
     pub call: Call,
@@ -10,6 +10,8 @@ pub struct Written {
     pub lost: &'static [u64],
     pub answer: Answer,
     pub after: &'static [u8],
+    pub spare: &'static [u8],
+    pub spare_after: &'static [u8],
 }
 
 const P1: [u8; 8] = [0x01, 0x04, 0x02, 0x08, 0x03, 0x0C, 0x0D, 0x06];
@@ -23,6 +25,12 @@ const P5: [u8; 8] = [0x01, 0x00, 0x02, 0x08, 0x03, 0x08, 0x09, 0x02];
 const P9: [u8; 8] = [0x00, 0x04, 0x03, 0x08, 0x03, 0x0C, 0x0D, 0x06];
 const P10: [u8; 8] = [0x00, 0x04, 0x02, 0x0A, 0x03, 0x0C, 0x0D, 0x06];
 const JOB: [u8; 8] = [0xEE, 0xEE, 0x02, 0x08, 0x03, 0x0C, 0x0D, 0x06];
+const JOB_BYTES: [u8; 31] = [
+    0x01, 0x00, 0x01, 0x01, 0x02, 0x00, 0x01, 0x03, 0x03, 0x00, 0x02, 0x00, 0x01, 0x04, 0x00, 0x04, 0x00,
+    0x00, 0x00, 0x01, 0x05, 0x00, 0x08, 0xEE, 0xEE, 0x02, 0x08, 0x03, 0x0C, 0x0D, 0x06,
+];
+const JOB_ANSWER: [u8; 15] =
+    [0x06, 0x00, 0x01, 0x00, 0x05, 0x00, 0x08, 0x01, 0x04, 0x02, 0x08, 0x03, 0x0C, 0x0D, 0x06];
 
 /// An encoded stripe of RDP for p = 5, and what P6 and P7 lose of it: (1,1), (1,4),
 /// (2,5), (0,5); (0,0), (0,4), (0,5); (0,0), (0,4), (1,5).
@@ -40,6 +48,12 @@ const P7_JUNK: [u8; 24] = {
     stripe[21] = 0xEE;
     stripe
 };
+
+/// A spare for p = 5 with junk in it, and columns 0, 1 and 5 of that stripe.
+const SPARE: [u8; 4] = [0xEE; 4];
+const COLUMN_0: [u8; 4] = [0x01, 0x02, 0x04, 0x08];
+const COLUMN_1: [u8; 4] = [0x10, 0x20, 0x40, 0x80];
+const COLUMN_5: [u8; 4] = [0x9D, 0x1B, 0x36, 0x7E];
 
 pub static WRITTEN: &[Written] = &[
     encoded(1, &P1_JUNK, &P1),
@@ -76,6 +90,17 @@ pub static WRITTEN: &[Written] = &[
     columns_of(&JOB, [3, 0], 0, &P1),
     lost_of(1, 3, &P1, &[], 0, &P1),
     lost_of(1, 3, &P10, &[], 12, &P10),
+    // P8, and what its plans and refused plans do; column 0 has no row that is forced.
+    planned(1, 3, 12),
+    planned(5, 15, 16),
+    rebuilt(1, 3, 4, &COLUMN_1),
+    rebuilt(5, 15, 4, &COLUMN_5),
+    rebuilt(0, 15, 4, &COLUMN_0),
+    rebuilt(1, 3, 1, &[0x10, 0xEE, 0xEE, 0xEE]),
+    refused_plan(1, 8),
+    refused_plan(1, 16),
+    refused_plan(5, 7),
+    JOB_EXAMPLE,
     refused(Encode, 9, 1, 2),
     refused(Encode, 2, 1, 2),
     refused(Encode, 33, 1, 2),
@@ -100,12 +125,26 @@ pub static WRITTEN: &[Written] = &[
     refused(BadColumn, 33, 1, 2),
     refused(BadColumn, 3, 0, 4),
     refused(BadColumn, 3, 4097, 4),
+    refused(Run, 9, 1, 2),
+    refused(Run, 2, 1, 2),
+    refused(Run, 33, 1, 2),
+    refused(Run, 3, 0, 4),
+    refused(Run, 3, 4097, 4),
 ];
 
 /// A call with cells of one byte that leaves the stripe as it is.
 const fn still(operation: Operation, code: u64, p: u64, stripe: &'static [u8], answer: Answer) -> Written {
     let call = Call::new(operation, Shape { code, p, cell: 1 }, stripe.len() as u64);
-    Written { call, before: stripe, bytes: &[], lost: &[], answer, after: stripe }
+    Written {
+        call,
+        before: stripe,
+        bytes: &[],
+        lost: &[],
+        answer,
+        after: stripe,
+        spare: &[],
+        spare_after: &[],
+    }
 }
 
 const fn encoded(code: u64, before: &'static [u8], after: &'static [u8]) -> Written {
@@ -153,3 +192,31 @@ const fn columns_of(before: &'static [u8], columns: [u64; 2], refusal: u64, afte
     let written = still(RebuildColumns, 1, 3, before, Answer::refused(refusal));
     Written { call: Call { columns, ..written.call }, after, ..written }
 }
+
+/// A plan for column k of RDP for p = 5.
+const fn planned(k: u64, rows: u64, reads: u64) -> Written {
+    let written = still(Plan, 1, 5, &[], Answer::planned(rows, reads));
+    Written { call: Call { k, ..written.call }, ..written }
+}
+
+/// A run from row 0 for column k of RDP for p = 5.
+const fn ran(k: u64, plan: u64, budget: u64, answer: Answer, spare_after: &'static [u8]) -> Written {
+    let written = still(Run, 1, 5, &RDP_5, answer);
+    let call = Call { k, plan, budget, spare_length: SPARE.len() as u64, ..written.call };
+    Written { call, spare: &SPARE, spare_after, ..written }
+}
+
+const fn rebuilt(k: u64, plan: u64, budget: u64, spare_after: &'static [u8]) -> Written {
+    ran(k, plan, budget, Answer::counted(budget), spare_after)
+}
+
+const fn refused_plan(k: u64, plan: u64) -> Written {
+    ran(k, plan, 4, Answer::refused(9), &SPARE)
+}
+
+const JOB_EXAMPLE: Written = Written {
+    bytes: &JOB_BYTES,
+    spare: &[0xEE; JOB_ANSWER.len()],
+    spare_after: &JOB_ANSWER,
+    ..still(Job, 1, 3, &[], Answer::answered(0, JOB_ANSWER.len() as u64))
+};

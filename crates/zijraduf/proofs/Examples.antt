@@ -2,7 +2,7 @@
 use mathlib.Core.Path.{_≡_, refl, sym, _∙_, subst}
 use mathlib.Core.List.{List, [], _∷_}
 use mathlib.Core.Bool.{Bool, true, false, not, _&&_, xor}
-use Prim.Native.Nat.{ℕ, _<_}
+use Prim.Native.Nat.{ℕ, _*_, _^_, _<_}
 use native.Mathlib.Omega.{arith}
 use lib.Dec.{eqb, ltb}
 use lib.ListN.{length, getD, List·getD-eq-default}
@@ -11,13 +11,14 @@ use Rattle.xor.specs.Xor.{_⊕_, xors}
 use Rattle.xor.specs.Sets.{any, count}
 use Rattle.xor.proofs.Cases.{by-less, clash, and-left, and-right}
 use Rattle.xor.proofs.Sets.{any-none, any-some}
+use Rattle.solve.specs.Bit.{bit}
 use Rattle.solve.specs.Solution.{syndrome}
 use Rattle.solve.specs.Method.{run, lowest}
 use Rattle.codes.specs.declared.Shape.{Shape}
 use Rattle.codes.specs.Shape.{listed, rows, columns, equations, cells, cellNumber, stripeLength, WellFormed}
 use Rattle.codes.specs.Equations.{equation}
 use Rattle.codes.specs.Encoded.{parityCell, sumsCell, byteAt, sumOver, parityByte, isParity, Encoded, fails, brokenEquations}
-use Rattle.codes.specs.Refusals.{order, applies, firstOf, refusal, stripeFaults, writeFaults}
+use Rattle.codes.specs.Refusals.{order, applies, firstOf, refusal, shapeFaults, stripeFaults, writeFaults}
 use Rattle.codes.specs.Holders.{holds}
 use Rattle.codes.specs.Depends.{WriteRight}
 use Rattle.codes.proofs.Refused.{accepted, write-accepted}
@@ -33,7 +34,9 @@ use Rattle.rebuild.specs.Bad.{Replaceable, badNumber, Finding}
 use Rattle.rebuild.proofs.OneBad.{none-fails}
 use Rattle.rebuild.proofs.Never.{columns-determined}
 use Rattle.rebuild.proofs.Computed.{outcome, stops, stops-undetermined, passes-determined, fits, fits-restores, unfit-none}
-use Rattle.zijraduf.specs.Examples.{Claim, encoded, broken, written, undetermined, determined, found, Example, table, Claims, Holds, AllHold}
+use Rattle.spare.specs.Plan.{diagonal, chosen, readsCell, cellsRead, byRule, isAccepted}
+use Rattle.spare.specs.Refusals.{planFaults, spareFaults, runFaults}
+use Rattle.zijraduf.specs.Examples.{Claim, encoded, broken, written, undetermined, determined, found, planned, runRefused, Example, table, Claims, Holds, AllHold}
 
 -- the difference put alone and encoded, byte t of it in cell k
 differing : Shape → ℕ → List ℕ → List ℕ → ℕ → ℕ → ℕ
@@ -70,6 +73,10 @@ claimed s stripe (written row column bytes new n) =
 claimed s stripe (undetermined lost) = stops (outcome s (named lost))
 claimed s stripe (determined lost) = not (stops (outcome s (named lost)))
 claimed s stripe (found finding) = finds s stripe finding
+claimed s stripe (planned k taken reads) =
+    eqb (refusal (planFaults s k)) 0
+    && (ltb taken (2 ^ rows s) && (not (any (rows s) (λ i. xor (bit i taken) (byRule s k i))) && eqb reads (cellsRead s k taken)))
+claimed s stripe (runRefused k plan number) = eqb (refusal (runFaults s (length stripe) (rows s * s .cell) k plan 0)) number
 
 module _ (s : Shape) (stripe : List ℕ) (row column : ℕ) (bytes new : List ℕ) (n : ℕ) (h : claimed s stripe (written row column bytes new n) ≡ true) where
   c : ℕ
@@ -167,6 +174,41 @@ found-number s stripe (Column c) h = refl
 found-number s stripe Unexplained h = refl
 found-number s stripe (Refused number) h = clash h refl
 
+-- tests that differ nowhere are the same
+not-xor : (a b : Bool) → xor a b ≡ false → a ≡ b
+unfolding xor
+not-xor true true h = refl
+not-xor true false h = h
+not-xor false true h = sym h
+not-xor false false h = refl
+
+is-planned : (s : Shape) (stripe : List ℕ) (k taken reads : ℕ) → claimed s stripe (planned k taken reads) ≡ true → Claims s stripe (planned k taken reads)
+unfolding claimed
+is-planned s stripe k taken reads h = record {
+  number = sym (eqb-true (refusal (planFaults s k)) 0 (and-left (eqb (refusal (planFaults s k)) 0) later h));
+  given = λ z. record {
+    plan = record { rows = taken; reads = reads };
+    says = refl;
+    rule = record {
+      low = ltb-true taken (2 ^ rows s) (and-left (ltb taken (2 ^ rows s)) last (and-right (eqb (refusal (planFaults s k)) 0) later h));
+      rule = λ i l. not-xor (bit i taken) (byRule s k i) (any-none (rows s) (λ j. xor (bit j taken) (byRule s k j)) (not-true differ (and-left (not differ) (eqb reads (cellsRead s k taken)) ends)) i l);
+    };
+    reads = eqb-true reads (cellsRead s k taken) (and-right (not differ) (eqb reads (cellsRead s k taken)) ends);
+  };
+}
+  where
+    differ : Bool
+    differ = any (rows s) (λ i. xor (bit i taken) (byRule s k i))
+
+    last : Bool
+    last = not differ && eqb reads (cellsRead s k taken)
+
+    later : Bool
+    later = ltb taken (2 ^ rows s) && last
+
+    ends : last ≡ true
+    ends = and-right (ltb taken (2 ^ rows s)) last (and-right (eqb (refusal (planFaults s k)) 0) later h)
+
 claimed-so : (s : Shape) (stripe : List ℕ) (c : Claim) → refusal (stripeFaults s (length stripe)) ≡ 0 → claimed s stripe c ≡ true → Claims s stripe c
 unfolding claimed c
 claimed-so s stripe encoded right h = is-clean s stripe h
@@ -175,6 +217,8 @@ claimed-so s stripe (written row column bytes new n) right h = (is-written s str
 claimed-so s stripe (undetermined lost) right h = stops-undetermined s (accepted s (length stripe) right .0) (named lost) h
 claimed-so s stripe (determined lost) right h = passes-determined s (accepted s (length stripe) right .0) (named lost) (not-true (stops (outcome s (named lost))) h)
 claimed-so s stripe (found answer) right h = record { number = found-number s stripe answer h ∙ sym right; finding = λ z. is-found s (accepted s (length stripe) right .0) stripe answer h }
+claimed-so s stripe (planned k taken reads) right h = is-planned s stripe k taken reads h
+claimed-so s stripe (runRefused k plan number) right h = eqb-true (refusal (runFaults s (length stripe) (rows s * s .cell) k plan 0)) number h
 
 passes : List Example → Bool
 passes [] = true
@@ -200,5 +244,5 @@ all-hold (e ∷ rows′) h =
 
 -- the theorem over the table
 pub examples-hold : AllHold table
-unfolding table passes claimed unwritten differing depending settled isParity writeFaults refusal firstOf order applies stripeFaults listed rows columns equations cells cellNumber stripeLength equation parityCell sumsCell byteAt sumOver fails brokenEquations any count xors _⊕_ named run lowest holds xor finds replaces wide inColumns syndrome
+unfolding table passes claimed unwritten differing depending settled isParity writeFaults refusal firstOf order applies stripeFaults shapeFaults listed rows columns equations cells cellNumber stripeLength equation parityCell sumsCell byteAt sumOver fails brokenEquations any count xors _⊕_ named run lowest holds xor finds replaces wide inColumns syndrome bit diagonal chosen readsCell cellsRead byRule isAccepted planFaults spareFaults runFaults
 examples-hold = all-hold table refl

@@ -20,9 +20,19 @@ use Rattle.stripe.specs.Broken.{numberOf, Counts}
 use Rattle.rebuild.specs.declared.BadColumn.{BadColumn}
 use Rattle.rebuild.specs.Bad.{Finds}
 use Rattle.rebuild.proofs.OneAnswer.{bad-one}
+use Rattle.spare.specs.declared.PlanAnswer.{PlanAnswer}
+use Rattle.spare.specs.declared.RunAnswer.{RunAnswer}
+use Rattle.spare.specs.declared.ShownAt.{ShownAt}
+use Rattle.spare.specs.Run.{Plans, RunsByPlan}
+use Rattle.spare.specs.Show.{Shown}
+use Rattle.spare.proofs.Planning.{plan-one}
+use Rattle.spare.proofs.SameReads.{run-one}
+use Rattle.spare.proofs.ShowFacts.{shown-one}
 use Rattle.zijraduf.specs.declared.Count.{Count}
 use Rattle.zijraduf.specs.declared.Found.{Found}
-use Rattle.zijraduf.specs.Export.{CountsBroken, WritesCounted, inNumbers, FindsInNumbers}
+use Rattle.zijraduf.specs.declared.Planned.{Planned}
+use Rattle.zijraduf.specs.declared.Part.{Part}
+use Rattle.zijraduf.specs.Export.{CountsBroken, WritesCounted, inNumbers, FindsInNumbers, planInNumbers, PlansInNumbers, runInNumbers, RunsInNumbers, shownInNumbers, ShowsInNumbers}
 
 module _ (s : Shape) (stripe : List ℕ) (answer : BrokenCount) (h : Counts s stripe answer) (n : ℕ) where
   pub from-count : answer ≡ Equations n → CountsBroken s stripe (record { refusal = 0; count = n })
@@ -109,3 +119,38 @@ from-finding s stripe answer given h e = record { given = given; finds = subst (
 -- any two answers that the exported bad column may give are equal
 pub exported-bad-one : (s : Shape) (stripe : List ℕ) (a b : Found) → FindsInNumbers s stripe a → FindsInNumbers s stripe b → a ≡ b
 exported-bad-one s stripe a b ha hb = ha .numbers ∙ ap inNumbers (bad-one s stripe (ha .given) (hb .given) (ha .finds) (hb .finds)) ∙ sym (hb .numbers)
+
+-- ---- plan
+
+pub from-plan : (s : Shape) (k : ℕ) (answer given : PlanAnswer) → Plans s k answer → answer ≡ given → PlansInNumbers s k (planInNumbers given)
+from-plan s k answer given h e = record { given = given; plans = subst (Plans s k) e h; numbers = refl }
+
+-- any two answers that the exported plan may give are equal
+pub exported-plan-one : (s : Shape) (k : ℕ) (a b : Planned) → PlansInNumbers s k a → PlansInNumbers s k b → a ≡ b
+exported-plan-one s k a b ha hb = ha .numbers ∙ ap planInNumbers (plan-one s k (ha .given) (hb .given) (ha .plans) (hb .plans)) ∙ sym (hb .numbers)
+
+-- ---- run
+
+pub from-run : (s : Shape) (k plan first budget : ℕ) (stripe old : List ℕ) (answer given : RunAnswer) (new : List ℕ)
+    → RunsByPlan s k plan first budget stripe old answer new → answer ≡ given → RunsInNumbers s k plan first budget stripe old (runInNumbers given) new
+from-run s k plan first budget stripe old answer given new h e =
+    record { given = given; runs = subst (λ (a : RunAnswer). RunsByPlan s k plan first budget stripe old a new) e h; numbers = refl }
+
+-- any two results that the exported run may leave are equal
+pub exported-run-one : (s : Shape) (k plan first budget : ℕ) (stripe old : List ℕ) (a b : Count) (x y : List ℕ)
+    → RunsInNumbers s k plan first budget stripe old a x → RunsInNumbers s k plan first budget stripe old b y → (a ≡ b) × (x ≡ y)
+exported-run-one s k plan first budget stripe old a b x y ha hb =
+    let same = run-one s k plan first budget stripe old (ha .given) (hb .given) x y (ha .runs) (hb .runs) in
+    (ha .numbers ∙ ap runInNumbers (same .0) ∙ sym (hb .numbers), same .1)
+
+-- ---- show
+
+pub from-shown : (s : Shape) (bytes spare k done row column : ℕ) (answer given : ShownAt)
+    → Shown s bytes spare k done row column answer → answer ≡ given → ShowsInNumbers s bytes spare k done row column (shownInNumbers s given)
+from-shown s bytes spare k done row column answer given h e = record { given = given; shown = subst (Shown s bytes spare k done row column) e h; numbers = refl }
+
+-- any two answers that the exported show may give are equal
+pub exported-show-one : (s : Shape) (bytes spare k done row column : ℕ) (a b : Part)
+    → ShowsInNumbers s bytes spare k done row column a → ShowsInNumbers s bytes spare k done row column b → a ≡ b
+exported-show-one s bytes spare k done row column a b ha hb =
+    ha .numbers ∙ ap (shownInNumbers s) (shown-one s bytes spare k done row column (ha .given) (hb .given) (ha .shown) (hb .shown)) ∙ sym (hb .numbers)

@@ -1,17 +1,21 @@
--- The examples that document 01 marks P, as one table; P8 belongs to the plan. Each row claims something in the words of the contracts.
+-- The examples that document 01 marks P, as one table. Each row claims something in the words of the contracts.
 use mathlib.Core.Path.{_≡_}
 use mathlib.Core.List.{List, [], _∷_}
-use Prim.Native.Nat.{ℕ}
+use Prim.Native.Nat.{ℕ, _*_}
 use lib.ListN.{length, replicate}
 use Rattle.codes.specs.declared.Shape.{Shape}
-use Rattle.codes.specs.Shape.{cellNumber, stripeLength, WellFormed}
+use Rattle.codes.specs.Shape.{rows, cellNumber, stripeLength, WellFormed}
 use Rattle.codes.specs.Encoded.{Encoded, brokenEquations}
+use Rattle.codes.specs.Refusals.{refusal}
 use Rattle.stripe.specs.Write.{Written, Depending}
 use Rattle.rebuild.specs.declared.BadColumn.{BadColumn}
 use Rattle.rebuild.specs.declared.BadColumn.the-variants.{Column, Unexplained}
 use Rattle.rebuild.specs.Survivors.{Undetermined}
 use Rattle.rebuild.specs.Rebuild.{named}
 use Rattle.rebuild.specs.Bad.{Finds}
+use Rattle.spare.specs.declared.PlanAnswer.the-variants.{Plan}
+use Rattle.spare.specs.Refusals.{runFaults}
+use Rattle.spare.specs.Run.{Plans}
 
 -- what a row claims of a stripe: that it is encoded; that so many equations are broken; that a small write to a row and a column
 -- of some bytes leaves another stripe, and that so many parity cells depend on the position
@@ -24,6 +28,9 @@ pub data Claim : Type 0 where
   determined : (lost : List ℕ) → Claim
   -- what bad column finds
   found : (finding : BadColumn) → Claim
+  -- that the plan for column k takes these rows by diagonal, with so many reads; that a run for column k by a plan is refused so
+  planned : (k rows reads : ℕ) → Claim
+  runRefused : (k plan number : ℕ) → Claim
 
 -- a row: the number behind P, a stripe, and what is claimed of it
 pub record Example : Type 0 where
@@ -36,13 +43,15 @@ pub record Example : Type 0 where
 abbrev pub small : ℕ → Shape
 small code = record { code = code; p = 3; cell = 1 }
 
--- RDP with p = 5 and cells of one byte, the number of its cell (row, column), and a stripe of it where the claim is about no bytes
+-- RDP with p = 5 and cells of one byte
 abbrev pub five : Shape
 five = record { code = 1; p = 5; cell = 1 }
 
+-- the number of its cell (row, column)
 abbrev pub at : ℕ → ℕ → ℕ
 at = cellNumber five
 
+-- a stripe of it, where the claim is about no bytes
 abbrev pub zeros : List ℕ
 zeros = replicate 24 0
 
@@ -57,6 +66,11 @@ table =
     ∷ record { number = 6; shape = five; claim = undetermined (at 1 1 ∷ at 1 4 ∷ at 2 5 ∷ at 0 5 ∷ []); stripe = zeros }
     ∷ record { number = 7; shape = five; claim = undetermined (at 0 0 ∷ at 0 4 ∷ at 0 5 ∷ []); stripe = zeros }
     ∷ record { number = 7; shape = five; claim = determined (at 0 0 ∷ at 0 4 ∷ at 1 5 ∷ []); stripe = zeros }
+    ∷ record { number = 8; shape = five; claim = planned 1 3 12; stripe = zeros }
+    ∷ record { number = 8; shape = five; claim = runRefused 1 8 9; stripe = zeros }
+    ∷ record { number = 8; shape = five; claim = runRefused 1 16 9; stripe = zeros }
+    ∷ record { number = 8; shape = five; claim = planned 5 15 16; stripe = zeros }
+    ∷ record { number = 8; shape = five; claim = runRefused 5 7 9; stripe = zeros }
     ∷ record { number = 9; shape = small 1; claim = found (Column 3); stripe = 0x00 ∷ 0x04 ∷ 0x03 ∷ 0x08 ∷ 0x03 ∷ 0x0C ∷ 0x0D ∷ 0x06 ∷ [] }
     ∷ record { number = 10; shape = small 1; claim = found Unexplained; stripe = 0x00 ∷ 0x04 ∷ 0x02 ∷ 0x0A ∷ 0x03 ∷ 0x0C ∷ 0x0D ∷ 0x06 ∷ [] }
     ∷ record { number = 10; shape = small 1; claim = broken 3; stripe = 0x00 ∷ 0x04 ∷ 0x02 ∷ 0x0A ∷ 0x03 ∷ 0x0C ∷ 0x0D ∷ 0x06 ∷ [] }
@@ -70,6 +84,8 @@ Claims s stripe (written row column bytes new n) = Written s (cellNumber s row c
 Claims s stripe (undetermined lost) = Undetermined s (named lost)
 Claims s stripe (determined lost) = Undetermined s (named lost) → ⊥
 Claims s stripe (found finding) = Finds s stripe finding
+Claims s stripe (planned k taken reads) = Plans s k (Plan (record { rows = taken; reads = reads }))
+Claims s stripe (runRefused k plan number) = refusal (runFaults s (length stripe) (rows s * s .cell) k plan 0) ≡ number
 
 -- a row holds: its stripe is well formed, and what is claimed of it is so
 pub record Holds (e : Example) : Type 0 where

@@ -12,8 +12,18 @@ use Rattle.stripe.specs.Write.{Written, Depending}
 use Rattle.rebuild.specs.declared.BadColumn.{BadColumn}
 use Rattle.rebuild.specs.declared.BadColumn.the-variants.{Clean, Column, Unexplained, Refused}
 use Rattle.rebuild.specs.Bad.{Finds}
+use Rattle.spare.specs.declared.PlanAnswer.{PlanAnswer}
+use Rattle.spare.specs.declared.PlanAnswer.the-variants.{Plan, Refused as PlanRefused}
+use Rattle.spare.specs.declared.RunAnswer.{RunAnswer}
+use Rattle.spare.specs.declared.RunAnswer.the-variants.{Rows, Refused as RunRefused}
+use Rattle.spare.specs.declared.ShownAt.{ShownAt}
+use Rattle.spare.specs.declared.ShownAt.the-variants.{Stripe, Spare, Refused as ShowRefused}
+use Rattle.spare.specs.Run.{Plans, RunsByPlan}
+use Rattle.spare.specs.Show.{Shown}
 use Rattle.zijraduf.specs.declared.Count.{Count}
 use Rattle.zijraduf.specs.declared.Found.{Found}
+use Rattle.zijraduf.specs.declared.Planned.{Planned}
+use Rattle.zijraduf.specs.declared.Part.{Part}
 
 -- broken's answer in two numbers: the refusal number, and the count, which is 0 where the call is refused
 pub record CountsBroken (s : Shape) (stripe : List ℕ) (answer : Count) : Type 0 where
@@ -41,3 +51,37 @@ pub record FindsInNumbers (s : Shape) (stripe : List ℕ) (answer : Found) : Typ
   pub given : BadColumn
   pub finds : Finds s stripe given
   pub numbers : answer ≡ inNumbers given
+
+-- plan's answer in three numbers: the refusal number, the mask of rows and the reads, which are 0 where the call is refused
+abbrev pub planInNumbers : PlanAnswer → Planned
+planInNumbers (Plan plan) = record { refusal = 0; rows = plan .rows; reads = plan .reads }
+planInNumbers (PlanRefused number) = record { refusal = number; rows = 0; reads = 0 }
+
+-- the exported plan gives the numbers of what plan answers
+pub record PlansInNumbers (s : Shape) (k : ℕ) (answer : Planned) : Type 0 where
+  pub given : PlanAnswer
+  pub plans : Plans s k given
+  pub numbers : answer ≡ planInNumbers given
+
+-- a run's answer in two numbers: the refusal number, and the rows rebuilt, which are 0 where the call is refused
+abbrev pub runInNumbers : RunAnswer → Count
+runInNumbers (Rows n) = record { refusal = 0; count = n }
+runInNumbers (RunRefused number) = record { refusal = number; count = 0 }
+
+-- the exported run gives the numbers of what run answers
+pub record RunsInNumbers (s : Shape) (k plan first budget : ℕ) (stripe old : List ℕ) (answer : Count) (new : List ℕ) : Type 0 where
+  pub given : RunAnswer
+  pub runs : RunsByPlan s k plan first budget stripe old given new
+  pub numbers : answer ≡ runInNumbers given
+
+-- show's answer in four numbers: the refusal number; 1 the stripe, 2 the spare, 0 refused; where in it the cell starts; how long it is
+abbrev pub shownInNumbers : Shape → ShownAt → Part
+shownInNumbers s (Stripe at) = record { refusal = 0; buffer = 1; offset = at; length = s .cell }
+shownInNumbers s (Spare at) = record { refusal = 0; buffer = 2; offset = at; length = s .cell }
+shownInNumbers s (ShowRefused number) = record { refusal = number; buffer = 0; offset = 0; length = 0 }
+
+-- the exported show gives the numbers of where show finds the cell
+pub record ShowsInNumbers (s : Shape) (bytes spare k done row column : ℕ) (answer : Part) : Type 0 where
+  pub given : ShownAt
+  pub shown : Shown s bytes spare k done row column given
+  pub numbers : answer ≡ shownInNumbers s given

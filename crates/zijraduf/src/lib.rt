@@ -1,9 +1,14 @@
 // The library for C: include/zijraduf.h declares these functions. Each hands its arguments to the Rattle call and answers as that does.
+ghost use lib.ListN.{length};
 ghost use Rattle.stripe.specs.Encode.{Encodes};
+ghost use Rattle.jobs.specs.Answer.{AnswersInto};
 ghost use Rattle.rebuild.specs.Rebuild.{RebuildsCells, RebuildsColumns};
-ghost use Rattle.zijraduf.specs.Export.{CountsBroken, WritesCounted, FindsInNumbers};
+ghost use Rattle.zijraduf.specs.Export.{CountsBroken, WritesCounted, FindsInNumbers, PlansInNumbers, RunsInNumbers, ShowsInNumbers};
 use codes::Shape;
 use rebuild::BadColumn;
+use spare::PlanAnswer;
+use spare::RunAnswer;
+use spare::ShownAt;
 use stripe::BrokenCount;
 use stripe::WriteCount;
 
@@ -20,6 +25,23 @@ pub struct Found {
     pub refusal: usize,
     pub finding: usize,
     pub column: usize,
+}
+
+// A refusal number, or 0 and a plan: the mask of the rows taken by diagonal, and how many distinct cells are read.
+#[repr(C)]
+pub struct Planned {
+    pub refusal: usize,
+    pub rows: u64,
+    pub reads: usize,
+}
+
+// A refusal number, or 0 and the part of a lent buffer that is a cell: 1 the stripe or 2 the spare, where the part starts, how long it is.
+#[repr(C)]
+pub struct Part {
+    pub refusal: usize,
+    pub buffer: usize,
+    pub offset: usize,
+    pub length: usize,
 }
 
 // Encode.
@@ -106,4 +128,86 @@ pub extern "C" fn zijraduf_bad_column(shape: Shape, stripe: &[u8]) -> Found
             column: 0,
         },
     }
+}
+
+// Plan.
+#[no_mangle]
+pub extern "C" fn zijraduf_plan(shape: Shape, k: usize) -> Planned
+    ensures { λ r. ⌜ PlansInNumbers shape k r ⌝ }
+{
+    match spare::plan(shape, k) {
+        PlanAnswer::Plan(plan) => Planned {
+            refusal: 0,
+            rows: plan.rows,
+            reads: plan.reads,
+        },
+        PlanAnswer::Refused(refusal) => Planned {
+            refusal,
+            rows: 0,
+            reads: 0,
+        },
+    }
+}
+
+// Run by plan.
+#[no_mangle]
+pub extern "C" fn zijraduf_run(
+    shape: Shape,
+    stripe: &[u8],
+    k: usize,
+    plan: u64,
+    spare: &mut [u8],
+    first: usize,
+    budget: usize,
+) -> Count
+    ensures { λ r. ⌜ RunsInNumbers shape k plan first budget (now (stripe .entry)) (now (spare .entry)) r (now (spare .exit)) ⌝ }
+{
+    match spare::run(shape, stripe, k, plan, spare, first, budget) {
+        RunAnswer::Rows(count) => Count { refusal: 0, count },
+        RunAnswer::Refused(refusal) => Count { refusal, count: 0 },
+    }
+}
+
+// Show.
+#[no_mangle]
+pub extern "C" fn zijraduf_show(
+    shape: Shape,
+    stripe: &[u8],
+    spare: &[u8],
+    k: usize,
+    done: usize,
+    row: usize,
+    column: usize,
+) -> Part
+    ensures { λ r. ⌜ ShowsInNumbers shape (length (now (stripe .entry))) (length (now (spare .entry))) k done row column r ⌝ }
+{
+    let length = shape.cell;
+    match spare::shown_at(shape, stripe.len(), spare.len(), k, done, row, column) {
+        ShownAt::Stripe(offset) => Part {
+            refusal: 0,
+            buffer: 1,
+            offset,
+            length,
+        },
+        ShownAt::Spare(offset) => Part {
+            refusal: 0,
+            buffer: 2,
+            offset,
+            length,
+        },
+        ShownAt::Refused(refusal) => Part {
+            refusal,
+            buffer: 0,
+            offset: 0,
+            length: 0,
+        },
+    }
+}
+
+// Job.
+#[no_mangle]
+pub extern "C" fn zijraduf_job(input: &[u8], output: &mut [u8]) -> usize
+    ensures { λ r. ⌜ AnswersInto (now (input .entry)) (now (output .entry)) r (now (output .exit)) ⌝ }
+{
+    jobs::answer(input, output)
 }

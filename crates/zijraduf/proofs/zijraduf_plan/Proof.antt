@@ -1,0 +1,25 @@
+-- `zijraduf::zijraduf_plan` meets its contract. Each case of the answer becomes its three numbers.
+use Rattle.spare.specs.declared.PlanAnswer.the-variants.{Plan, Refused}
+use Rattle.zijraduf.proofs.Export.{from-plan}
+use borrow.Author.Needs.{needs}
+use Rattle.zijraduf.proofs.zijraduf_plan.Statement.{statement}
+use Rattle.zijraduf.proofs.zijraduf_plan.Tie as tie
+
+plan-requires : tie.Need-plan-requires
+plan-requires c κs = search needs
+
+enum-known-plan : tie.Need-enum-known-plan
+enum-known-plan c = search needs
+
+enum-known-refusal : tie.Need-enum-known-refusal
+enum-known-refusal c = search needs
+
+returns : tie.Need-returns
+returns c = from-plan _ _ _ (Plan _) (c .before .before .before .plan .ensures) (c .before .plan2 .given .1)
+
+returns-2 : tie.Need-returns-2
+returns-2 c = from-plan _ _ _ (Refused _) (c .before .before .before .plan .ensures) (c .before .refusal .given .1)
+
+pub zijraduf-plan-spec : {M : Type 1} → statement M
+zijraduf-plan-spec =
+    tie.close (tie.spec plan-requires enum-known-plan enum-known-refusal returns returns-2)

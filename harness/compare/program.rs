@@ -1,0 +1,64 @@
+//! The program that reads a job on its standard input.
+
+use crate::random::Random;
+use std::io::{Read, Write};
+use std::process::{Command, Stdio};
+use std::thread;
+use std::time::Duration;
+
+/// The words that start it.
+pub struct Program<'a>(pub &'a [String]);
+
+impl Program<'_> {
+    /// Gives a job to a fresh process, and has it write that answer and end well.
+    pub fn same_answer(&self, job: &[u8], expected: &[u8], random: &mut Random) -> Result<(), String> {
+        let mut child = Command::new(&self.0[0])
+            .args(&self.0[1..])
+            .stdin(Stdio::piped())
+            .stdout(Stdio::piped())
+            .spawn()
+            .map_err(|error| format!("the program: {error}"))?;
+        let mut input = child.stdin.take().expect("a pipe");
+        let mut output = child.stdout.take().expect("a pipe");
+        let parts = parts(job, random);
+        let mut came = Vec::new();
+        let read = thread::scope(|scope| {
+            // A program that has seen enough needn't take the rest.
+            scope.spawn(move || {
+                for part in parts {
+                    if input.write_all(part).is_err() {
+                        return;
+                    }
+                    thread::sleep(Duration::from_micros(if part.len() < job.len() { 500 } else { 0 }));
+                }
+            });
+            output.read_to_end(&mut came)
+        });
+        let status = child.wait();
+        let told =
+            format!("\n  job      {}\n  expected {}\n  came     {}", hex(job), hex(expected), hex(&came));
+        match (read, status) {
+            (Ok(_), Ok(status)) if status.success() && came == expected => Ok(()),
+            (Ok(_), Ok(status)) if status.success() => Err(format!("another answer{told}")),
+            (read, status) => Err(format!("the program ended badly ({read:?}, {status:?}){told}")),
+        }
+    }
+}
+
+/// A pipe gives what it has: a job may come at once or in up to four parts.
+fn parts<'a>(job: &'a [u8], random: &mut Random) -> Vec<&'a [u8]> {
+    let mut rest = job;
+    let mut parts = Vec::new();
+    for _ in 0..random.below(4) {
+        let (part, after) = rest.split_at(random.below(rest.len().min(100) + 1));
+        parts.push(part);
+        rest = after;
+    }
+    parts.push(rest);
+    parts
+}
+
+fn hex(bytes: &[u8]) -> String {
+    let digits: Vec<String> = bytes.iter().map(|byte| format!("{byte:02X}")).collect();
+    format!("({} bytes) {}", bytes.len(), digits.join(" "))
+}

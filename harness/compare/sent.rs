@@ -1,0 +1,241 @@
+//! Which jobs are compared.
+
+use crate::bridge::Place;
+use crate::cases::{codes, Case, Cases};
+use crate::fields::{Change, Room, Sent};
+use crate::fills::{Fill, FILLS};
+use crate::lists::{Base, Form, Found, Lost, Odd, FORMS};
+use crate::second::{Call, Operation::Job, Shape};
+
+/// The most bytes of a stripe and lost cells in a job, and the longest job, which has
+/// both.
+const MOST: u64 = 32_768;
+const MOST_LOST: usize = 2048;
+const LONGEST: usize = 4 + 4 + 5 + (3 + 2 * MOST_LOST) + (3 + MOST as usize);
+
+/// The job of the scope document's example, with and without the cell size told, and
+/// others with stripes and lists longer than 256 bytes.
+const SMALL: Shape = Shape { code: 1, p: 3, cell: 1 };
+const BASES: [(Shape, bool); 4] = [
+    (SMALL, true),
+    (Shape { code: 1, p: 3, cell: 512 }, false),
+    (Shape { code: 2, p: 7, cell: 512 }, false),
+    (Shape { code: 3, p: 11, cell: 259 }, true),
+];
+
+impl Cases<'_> {
+    pub fn jobs(&mut self) {
+        self.every_kind();
+        self.changed_fields();
+        self.cut_jobs();
+        self.limits();
+        self.bad_numbers();
+        self.bad_in_both();
+        self.rooms();
+    }
+
+    /// Of a call of any numbers.
+    fn push_job(&mut self, shape: Shape, length: u64, fill: Fill, lost: Lost, sent: Sent) {
+        let mut case = Case { lost, sent, ..self.case(Call::new(Job, shape, length), fill) };
+        if sent.change == Change::Cut(0) && self.random.below(2) == 0 {
+            case.bytes.place = Place::Null;
+        }
+        if sent.room == Room::Of(0) && self.random.below(2) == 0 {
+            case.spare.place = Place::Null;
+        }
+        self.list.push(case);
+    }
+
+    /// Of a good shape, with a stripe of the right length.
+    fn job(&mut self, shape: Shape, fill: Fill, lost: Lost, sent: Sent) {
+        let length = self.second.length(shape).expect("a good shape");
+        self.push_job(shape, length, fill, lost, sent);
+    }
+
+    /// One of column 0 and column 1 lost, which comes back.
+    fn good_job(&mut self, shape: Shape, sent: Sent) {
+        let columns = self.random.one_of(&[(0, 0), (0, 1)]);
+        let lost = self.job_lost(Base::Columns(columns.0, columns.1), 0, 0);
+        self.job(shape, Fill::Encoded, lost, sent);
+    }
+
+    fn job_lost(&mut self, base: Base, less: usize, more: usize) -> Lost {
+        // A long list may not go into a field.
+        let form = self.random.one_of(&FORMS[..4]);
+        Lost { base, less, more, form, found: Found::Random, odd: Odd::Nothing }
+    }
+
+    /// Every code and p, with cells of one byte up to the largest that fit: each kind of
+    /// list, of stripes that are encoded and others.
+    fn every_kind(&mut self) {
+        for (code, p) in codes() {
+            let largest = (MOST / self.layout(code, p).cells() as u64).min(4096);
+            let any = 1 + self.random.below(largest as usize) as u64;
+            for cell in [1, 3, any, largest] {
+                let shape = Shape { code, p, cell };
+                let fill = self.random.one_of(&FILLS);
+                let [a, b] = [0, 1].map(|_| self.random.below(p as usize));
+                for (fill, base, less, more) in [
+                    (fill, Base::Empty, 0, 0),
+                    (Fill::Encoded, Base::Columns(a, b), 0, 0),
+                    (fill, Base::Columns(a, a), 1, 1),
+                    (Fill::Encoded, Base::Determined, 1, 0),
+                    (fill, Base::Determined, 0, 1),
+                ] {
+                    let lost = self.job_lost(base, less, more);
+                    self.job(shape, fill, lost, Sent::PLAIN);
+                }
+            }
+        }
+        for (code, p) in codes().filter(|(_, p)| *p <= 7) {
+            self.good_job(Shape { code, p, cell: 512 }, Sent { cell_told: false, ..Sent::PLAIN });
+        }
+    }
+
+    /// Each field missing, doubled, in the place of another, with another tag, with a
+    /// wrong length told, and with a content that is shorter or longer.
+    fn changed_fields(&mut self) {
+        for (shape, cell_told) in BASES {
+            for tag in 1..=5 {
+                let others = (0..=8).chain([0x10, 0x40, 0xFF]).filter(|other| *other != tag);
+                let swapped = (tag + 1..=5).map(|other| Change::Swapped(tag, other));
+                let tags = others.map(|other| Change::Tag(tag, other));
+                let told = [-256, -2, -1, 1, 2, 256, 0x8000].map(|more| Change::Told(tag, more));
+                let length = if tag <= 3 { 0 } else { 8 };
+                let long = (length..length + 5).map(|length| Change::Long(tag, length));
+                let whole = [Change::Without(tag), Change::Twice(tag), Change::LowFirst(tag)];
+                for change in whole.into_iter().chain(swapped).chain(told).chain(long).chain(tags) {
+                    self.good_job(shape, Sent { cell_told, change, room: Room::Enough });
+                }
+            }
+        }
+    }
+
+    /// Cut after every byte of the small job and in the middle of larger ones; bytes after
+    /// the last field; far more bytes than the longest job has.
+    fn cut_jobs(&mut self) {
+        for (shape, cell_told) in BASES {
+            let whole = if shape == SMALL { 36 } else { 24 };
+            let cut = (0..whole).chain([100, 1000, 4000]).map(Change::Cut);
+            let more = [1, 2, 3, 4, 8, 1000, 100_000].map(Change::More);
+            for change in cut.chain(more) {
+                self.good_job(shape, Sent { cell_told, change, room: Room::Enough });
+            }
+        }
+    }
+
+    /// As many lost cells and stripe bytes as there may be, one more, and as many as a
+    /// length can tell; the longest job, and one byte after it.
+    fn limits(&mut self) {
+        let full = Shape { code: 1, p: 3, cell: 4096 };
+        for shape in [SMALL, full, Shape { code: 2, ..full }] {
+            for length in [0, 1, 4094, 4095, 4096, 4097, 4098, 4100, 8192, 65_534, 65_535] {
+                self.good_job(shape, Sent { change: Change::Long(4, length), ..Sent::PLAIN });
+            }
+            for length in [0, 7, 8, 9, 4096, 32_767, 32_768, 32_769, 65_535] {
+                self.good_job(shape, Sent { change: Change::Long(5, length), ..Sent::PLAIN });
+            }
+        }
+        let lost = Lost { form: Form::Filled(MOST_LOST), ..self.job_lost(Base::Columns(0, 3), 0, 0) };
+        let longer = [1, 2, 3, 100_000].map(Change::More);
+        let shorter = [LONGEST, LONGEST - 1, LONGEST - 4096].map(Change::Cut);
+        for change in longer.into_iter().chain(shorter).chain([Change::Nothing]) {
+            self.job(full, Fill::Encoded, lost, Sent { change, ..Sent::PLAIN });
+        }
+        for odd in [Odd::Nothing, Odd::Number(0), Odd::Number(7), Odd::Number(8), Odd::Number(65_535)] {
+            let lost = Lost { odd, ..self.job_lost(Base::Columns(1, 2), 1, 0) };
+            for change in [Change::Nothing, Change::Long(4, 4096), Change::Long(4, 4098)] {
+                for shape in [SMALL, full] {
+                    self.job(shape, Fill::Encoded, lost, Sent { change, ..Sent::PLAIN });
+                }
+            }
+        }
+    }
+
+    /// Good and bad numbers in all combinations: the lowest refusal number must come.
+    fn bad_numbers(&mut self) {
+        for code in [0, 1, 3, 4, 255] {
+            for p in [0, 3, 4, 33, 255] {
+                for cell in [0, 1, 4096, 4097, 65_535] {
+                    let right = self.second.length(self.mended(Shape { code, p, cell })).expect("good");
+                    for (length, odd) in [
+                        (right.min(MOST), Odd::Nothing),
+                        (right.min(MOST) - 1, Odd::Nothing),
+                        (right.min(MOST), Odd::Number(9)),
+                    ] {
+                        let lost = Lost { odd, ..self.job_lost(Base::Cell(1), 0, 0) };
+                        self.push_job(Shape { code, p, cell }, length, Fill::Random, lost, Sent::PLAIN);
+                    }
+                }
+            }
+        }
+    }
+
+    /// Bad numbers in bytes that are no job: 13 comes before all others.
+    fn bad_in_both(&mut self) {
+        for (shape, length, odd) in [
+            (Shape { code: 0, ..SMALL }, 8, Odd::Nothing),
+            (Shape { p: 4, ..SMALL }, 8, Odd::Nothing),
+            (Shape { cell: 0, ..SMALL }, 8, Odd::Nothing),
+            (Shape { code: 255, p: 255, cell: 65_535 }, 8, Odd::Number(65_535)),
+            (SMALL, 7, Odd::Nothing),
+            (SMALL, 8, Odd::Number(8)),
+        ] {
+            let told = [Change::Told(5, 1), Change::Told(5, -1), Change::Told(4, 1), Change::Told(1, 1)];
+            let each = (1..=5).flat_map(|tag| [Change::Without(tag), Change::Twice(tag)]);
+            let more = [Change::Long(4, 3), Change::Long(5, 32_769), Change::More(1), Change::Cut(30)];
+            for change in told.into_iter().chain(each).chain(more) {
+                let lost = Lost { odd, ..self.job_lost(Base::Columns(0, 1), 0, 0) };
+                self.push_job(shape, length, Fill::Random, lost, Sent { change, ..Sent::PLAIN });
+            }
+        }
+    }
+
+    /// Every room up to a little more than enough for the small job's answer, carried out
+    /// and refused, and rooms about enough for others.
+    fn rooms(&mut self) {
+        for change in [Change::Nothing, Change::Without(4), Change::Long(5, 9), Change::More(1)] {
+            for room in (0..=18).map(Room::Of).chain([Room::More(100), Room::Of(40_000)]) {
+                self.good_job(SMALL, Sent { change, room, ..Sent::PLAIN });
+            }
+        }
+        for (shape, cell_told) in BASES {
+            let near = [Room::Less(1), Room::Less(2), Room::More(1), Room::More(2), Room::More(4096)];
+            for room in near.into_iter().chain([0, 3, 4, 7].map(Room::Of)) {
+                for fill in [Fill::Encoded, Fill::Random] {
+                    let lost = self.job_lost(Base::Columns(0, 0), 0, 0);
+                    self.job(shape, fill, lost, Sent { cell_told, change: Change::Nothing, room });
+                }
+            }
+        }
+    }
+
+    /// Most of them mutated, and most of those short.
+    pub fn random_job(&mut self) {
+        let Shape { code, p, .. } = self.random_shape();
+        let layout = self.layout(code, p);
+        let (columns, largest) = (layout.columns, (MOST / layout.cells() as u64).min(4096));
+        let short = self.random.below(4) > 0;
+        let cell = 1 + self.random.below(if short { 3 } else { largest as usize }) as u64;
+        let cell_told = !(p <= 7 && self.random.below(8) == 0);
+        let shape = Shape { code, p, cell: if cell_told { cell } else { 512 } };
+        let change = match self.random.below(4) {
+            0 => Change::Nothing,
+            _ => Change::Mutated(1 + self.random.below(3)),
+        };
+        let more = self.random.below(40);
+        let room = match self.random.below(8) {
+            0 => Room::Of(more),
+            1 => Room::Less(1),
+            2 | 3 => Room::More(more),
+            _ => Room::Enough,
+        };
+        let [a, b] = [0, 1].map(|_| self.random.below(columns));
+        let [less, more] = [self.random.below(3), self.random.below(2)];
+        let base =
+            self.random.one_of(&[Base::Empty, Base::Columns(a, a), Base::Columns(a, b), Base::Determined]);
+        let lost = self.job_lost(base, less, more);
+        let fill = if self.random.below(2) == 0 { Fill::Encoded } else { self.random.one_of(&FILLS) };
+        self.job(shape, fill, lost, Sent { cell_told, change, room });
+    }
+}

@@ -1,0 +1,35 @@
+#!/bin/sh
+# Compares the job program with the independent second program, a process a job.
+#
+#   harness/jobs.sh [--program FILE] [--seed N] [--only N] [--jobs N]
+#
+# Without --program it is proved and built first. --jobs says how many random jobs come
+# after the listed ones.
+set -eu
+ROOT=$(cd "$(dirname "$0")/.." && pwd)
+. "$ROOT/harness/kit.sh"
+
+PROGRAM=
+JOBS=300
+OPTIONS=
+while [ $# -gt 0 ]; do
+    case $1 in
+    --program) PROGRAM=${2:?--program wants a file}; shift 2 ;;
+    --jobs) JOBS=${2:?--jobs wants a number}; shift 2 ;;
+    --seed | --only) OPTIONS="$OPTIONS $1 ${2:?$1 wants a number}"; shift 2 ;;
+    *) echo "usage: harness/jobs.sh [--program FILE] [--seed N] [--only N] [--jobs N]" >&2; exit 2 ;;
+    esac
+done
+
+if [ -z "$PROGRAM" ]; then
+    (cd "$ROOT" && rt check job) >&2
+    PROGRAM=$ROOT/target/bin/job
+fi
+mkdir -p "$BUILD"
+rustc --edition 2021 -O -o "$BUILD/compare" "$ROOT/harness/compare/main.rs"
+
+# A program that faults is reported; it leaves no core file behind.
+ulimit -c 0 2>/dev/null || :
+# One that doesn't end is ended. OPTIONS holds plain words only: left unquoted to be split.
+"$BUILD/compare" --jobs "$JOBS" $OPTIONS -- timeout 60 \
+    ${EMULATOR:+"$EMULATOR"} "$LOADER" --library-path "$TOOLS/lib" "$PROGRAM"
