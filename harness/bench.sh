@@ -8,9 +8,9 @@
 #
 #   --quick       p = 5, 17 and 31; cells of 512 and 4,096 bytes
 #   --counts      instructions only, no times
-#   --only CALLS  some calls: encode, broken, write, two-columns, one-column, four-cells,
-#                 clean, bad-column, deciding; rebuild is all from two-columns on, with
-#                 encode and broken for their bars
+#   --only CALLS  some calls: encode, broken, write, run, run-rows, two-columns, one-column,
+#                 four-cells, clean, bad-column, deciding; rebuild is all from two-columns
+#                 on, with encode and broken for their bars
 #   --lib FILE    measures FILE in place of what `rt staticlib zijraduf` makes
 #
 # x86-64: instructions by perf or valgrind, and GB/s. Arm: instructions, by the kit's
@@ -20,14 +20,29 @@ set -eu
 primes='5 7 17 31'
 cells='512 1000 4096'
 rebuild='two-columns one-column four-cells clean bad-column deciding'
-only="encode broken write $rebuild"
+only="encode broken write run run-rows $rebuild"
+known="$only rebuild"
 lib=
 times=yes
+
+# Ends where a word is no call's name.
+want_known() {
+    for word in $1; do
+        case " $known " in
+        *" $word "*) ;;
+        *) echo "bench: no call is named $word; there are: $known" >&2 && exit 2 ;;
+        esac
+    done
+}
+
 while [ $# -gt 0 ]; do
     case $1 in
     --quick) primes='5 17 31' cells='512 4096' ;;
     --counts) times= ;;
-    --only) only=$(echo "${2:?--only wants calls}" | sed "s/rebuild/encode broken $rebuild/") && shift ;;
+    --only)
+        want_known "${2:?--only wants calls}"
+        only=$(echo "$2" | sed "s/rebuild/encode broken $rebuild/") && shift
+        ;;
     --lib) lib=$(realpath "${2:?--lib wants a file}") && shift ;;
     *) sed -n '2,/^set/s/^# \{0,1\}//p' "$0" >&2 && exit 2 ;;
     esac
@@ -193,7 +208,9 @@ measure() {
     say "code, p and cell $shape: $*"
     # A shape holds plain words only: left unquoted to be split.
     driver check $shape "$@" >"$BUILD/list"
+    [ -s "$BUILD/list" ] || return 0
     awk -v s="$shape" '{ print "bytes", s, $0 }' "$BUILD/list"
+    driver reads $shape "$@" | awk -v s="$shape" '{ print "reads", s, $0 }'
     if [ -n "$counter" ]; then
         $counter $shape "$@" >"$BUILD/counts"
         awk -v s="$shape" '{ print "instructions", s, $0 }' "$BUILD/counts"
@@ -255,6 +272,10 @@ header() {
     echo "- Write: a data cell in the middle, with three dependent parity cells for RDP and two for the others."
     echo "- Two columns: 0 and 1; of the other pairs none takes 3 % more instructions. One column: 0. Four cells: in four columns and four rows."
     echo "  Clean: no cell is lost, and the stripe is encoded. Bad column: the middle one, every byte of it bad."
+    echo "- Run: all rows of the lost column 1 of RDP into a spare by the library's plan, made before; run-rows: by rows alone."
+    echo "  In C no other column takes 2 % more instructions."
+    echo "  Leaf: (p - 1)^2 times one cell XORed into another (the first of a row put), by the function with which the same algorithm in C does"
+    echo "  it. Sums: the same cells, all of a row XORed at once. Of both where the cells lie is ready made."
     if [ -e "$peers/done" ]; then
         echo "- Peers: $(cat "$peers/versions" "$snapraid/done" 2>/dev/null | paste -s -d , | sed 's/,/, /g')."
     fi
@@ -271,6 +292,7 @@ pick_counter
 others=$(other_bytes)
 of_all=$(echo "$only" | sed 's/deciding//')
 of_all=$(echo $of_all)
+driver check 1 7 512 plan show job >/dev/null
 driver stack | awk '{ print "stack 0 0 0", $1, "ours", $2 }' >"$figures"
 measure_all
 header

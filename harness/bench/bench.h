@@ -22,8 +22,11 @@ enum { RTLD_NOW = 2 };
 void *dlopen(const char *, int);
 void *dlsym(void *, const char *);
 
-enum who { OURS, SAME, ISAL_SSE, ISAL, JERASURE, LAZY, SNAPRAID, MEMCPY, WHOS };
-enum call { ENCODE, BROKEN, WRITE, TWO_COLUMNS, ONE_COLUMN, FOUR_CELLS, CLEAN, BAD_COLUMN, DECIDING, CALLS };
+enum who { OURS, SAME, LEAF, SUMS, ISAL_SSE, ISAL, JERASURE, LAZY, SNAPRAID, MEMCPY, WHOS };
+enum call {
+    ENCODE, BROKEN, WRITE, TWO_COLUMNS, ONE_COLUMN, FOUR_CELLS, CLEAN, BAD_COLUMN,
+    RUN, RUN_ROWS, PLAN, SHOW, JOB, DECIDING, CALLS
+};
 extern const char *const names[WHOS], *const call_names[CALLS];
 
 /* ---- the shape at hand ---- */
@@ -34,15 +37,17 @@ extern size_t length, data_bytes;
 void set_shape(uint64_t code, uint64_t p, uint64_t cell);
 
 /* A small write goes to a data cell in the middle, on which as many parity cells depend
- * as on any. Four lost cells are spread over the stripe. The bad column is in the middle. */
-extern uint64_t row, column, lost_cells[4], bad_column;
+ * as on any. Four lost cells are spread over the stripe. The bad column is in the middle.
+ * A run rebuilds the lost column by the library's plan, and beside it by rows alone. */
+extern uint64_t row, column, lost_cells[4], bad_column, lost_column, run_plan;
 extern uint8_t new_bytes[4096];
 
 /* ---- memory ---- */
 
-/* What a call finds in its memory: an encoded stripe, one with a bad column, ISA-L's sources
- * with P and Q, a cell's difference with two parities, snapraid's blocks with a bad one, any. */
-enum state { ENCODED, DAMAGED, VECTORS, PIECES, BLOCKS, ANY, STATES };
+/* What a call finds in its memory: an encoded stripe, one with a bad column, one with a spare
+ * column after it, a job of four lost cells with room for its answer, ISA-L's sources with P
+ * and Q, a cell's difference with two parities, snapraid's blocks with a bad one, any. */
+enum state { ENCODED, DAMAGED, SPARED, JOB_BYTES, VECTORS, PIECES, BLOCKS, ANY, STATES };
 enum state state_of(enum who who, enum call call);
 size_t memory_of(enum state state);
 void prepare(enum state state, uint8_t *m);
@@ -51,6 +56,11 @@ uint8_t *memory(size_t bytes);
 uint64_t draw(void);
 void fill(uint8_t *m, size_t bytes);
 void damage(uint8_t *m, size_t bytes);
+
+/* A job ends with its stripe, after so many bytes of other fields; the answer goes behind the
+ * longest job. */
+enum { JOB_HEAD = 27 };
+uint8_t *answer_at(uint8_t *m);
 
 /* ---- calls ---- */
 
@@ -75,5 +85,8 @@ size_t block(void);
 
 void wrong(const char *whose, const char *what);
 void check(enum call call);
+
+/* Marks the cells that a run reads, by the equations. Gives how many. */
+uint64_t cells_read(enum call call, uint8_t *read);
 
 #endif

@@ -3,14 +3,15 @@
  * without them too. */
 #include "bench.h"
 
-const char *const names[WHOS] = {"ours", "c", "isal-sse", "isal", "jerasure", "lazy", "snapraid", "memcpy"};
+const char *const names[WHOS] = {"ours", "c", "leaf", "sums", "isal-sse", "isal", "jerasure", "lazy", "snapraid", "memcpy"};
 const char *const call_names[CALLS] = {"encode", "broken", "write", "two-columns", "one-column",
-                                       "four-cells", "clean", "bad-column", "deciding"};
+                                       "four-cells", "clean", "bad-column", "run", "run-rows",
+                                       "plan", "show", "job", "deciding"};
 
 struct zijraduf_shape shape;
 uint64_t code, p, cell, rows, columns, equations;
 size_t length, data_bytes;
-uint64_t row, column, lost_cells[4], bad_column;
+uint64_t row, column, lost_cells[4], bad_column, lost_column, run_plan;
 uint8_t new_bytes[4096];
 
 void set_shape(uint64_t new_code, uint64_t new_p, uint64_t new_cell)
@@ -25,6 +26,8 @@ void set_shape(uint64_t new_code, uint64_t new_p, uint64_t new_cell)
     row = code == 3 ? (p - 3) / 2 : p / 2;
     column = p / 2 - 1;
     bad_column = columns / 2;
+    lost_column = 1;
+    run_plan = zijraduf_plan(shape, lost_column).rows;
     static const uint64_t quarter[4] = {2, 0, 3, 1};
     for (uint64_t k = 0; k < 4; k++)
         lost_cells[k] = k * columns / 4 * rows + quarter[k] * rows / 4;
@@ -107,6 +110,33 @@ static void ours_four(uint8_t *m) { answer = zijraduf_rebuild_cells(shape, m, le
 static void ours_clean(uint8_t *m) { answer = zijraduf_rebuild_cells(shape, m, length, lost_cells, 0); }
 static void ours_bad(uint8_t *m) { answer = found(zijraduf_bad_column(shape, m, length)); }
 
+typedef struct zijraduf_count run(struct zijraduf_shape, const uint8_t *, size_t, uint64_t, uint64_t, uint8_t *, size_t,
+                                  uint64_t, uint64_t);
+static void run_call(run *f, uint64_t plan, uint8_t *m)
+{
+    answer = f(shape, m, length, lost_column, plan, m + length, rows * cell, 0, rows).count;
+}
+static void ours_run(uint8_t *m) { run_call(zijraduf_run, run_plan, m); }
+static void ours_run_rows(uint8_t *m) { run_call(zijraduf_run, 0, m); }
+
+/* The plan of the lost column; its last cell when all rows are done; the job at m. */
+static void ours_plan(uint8_t *m)
+{
+    (void)m;
+    answer = zijraduf_plan(shape, lost_column).reads;
+}
+static void ours_show(uint8_t *m)
+{
+    struct zijraduf_part part = zijraduf_show(shape, m, length, m + length, rows * cell, lost_column, rows, rows - 1,
+                                              lost_column);
+    answer = part.buffer == ZIJRADUF_IN_SPARE && part.length == cell ? part.offset : ~0ull;
+}
+uint8_t *answer_at(uint8_t *m) { return m + ZIJRADUF_JOB_LONGEST; }
+static void ours_job(uint8_t *m)
+{
+    answer = zijraduf_job(m, JOB_HEAD + length, answer_at(m), ZIJRADUF_ANSWER_LONGEST);
+}
+
 static void c_encode(uint8_t *m) { answer = same_encode(shape, m, length); }
 static void c_broken(uint8_t *m) { answer = same_broken(shape, m, length).count; }
 static void c_write(uint8_t *m) { answer = same_write(shape, m, length, row, column, new_bytes, cell).count; }
@@ -115,6 +145,31 @@ static void c_one(uint8_t *m) { answer = same_rebuild_columns(shape, m, length, 
 static void c_four(uint8_t *m) { answer = same_rebuild_cells(shape, m, length, lost_cells, 4); }
 static void c_clean(uint8_t *m) { answer = same_rebuild_cells(shape, m, length, lost_cells, 0); }
 static void c_bad(uint8_t *m) { answer = found(same_bad_column(shape, m, length)); }
+static void c_run(uint8_t *m) { run_call(same_run, run_plan, m); }
+static void c_run_rows(uint8_t *m) { run_call(same_run, 0, m); }
+
+/* The leaf alone, a cell at a time and a row at a time: what a run adds to it is to list the cells of its equations. */
+static void c_cells(uint8_t *m) { same_cells(shape, m, m + length); }
+static void c_sums(uint8_t *m) { same_sums(shape, m, m + length); }
+
+/* ---- functions of the peers, by name ---- */
+
+struct function {
+    void *to;
+    const char *name;
+};
+
+/* Sets pointers to functions, up to the first that the library doesn't have. */
+static int find(void *lib, const struct function *list, int count)
+{
+    int found = lib != 0;
+    for (int k = 0; found && k < count; k++) {
+        void *f = dlsym(lib, list[k].name);
+        memcpy(list[k].to, &f, sizeof f);
+        found = f != 0;
+    }
+    return found;
+}
 
 /* ---- ISA-L ---- */
 
@@ -176,19 +231,13 @@ static int open_tables(void *lib)
 
 static int open_isal(void)
 {
+    static const struct function list[] = {
+        {&update_sse, "ec_encode_data_update_sse"}, {&update, "ec_encode_data_update"},
+        {&decode_sse, "ec_encode_data_sse"}, {&decode, "ec_encode_data"}, {&pq_check_sse, "pq_check_sse"},
+        {&pq_check, "pq_check"}, {&pq_gen_sse, "pq_gen_sse"}, {&pq_gen, "pq_gen"},
+    };
     void *lib = dlopen("libisal.so.2", RTLD_NOW);
-    if (lib == 0 || !open_tables(lib))
-        return 0;
-    update_sse = dlsym(lib, "ec_encode_data_update_sse");
-    update = dlsym(lib, "ec_encode_data_update");
-    decode_sse = dlsym(lib, "ec_encode_data_sse");
-    decode = dlsym(lib, "ec_encode_data");
-    pq_check = dlsym(lib, "pq_check");
-    pq_gen_sse = dlsym(lib, "pq_gen_sse");
-    pq_check_sse = dlsym(lib, "pq_check_sse");
-    if (update_sse && update && decode_sse && decode && pq_check && pq_gen_sse && pq_check_sse)
-        pq_gen = dlsym(lib, "pq_gen");
-    return pq_gen != 0;
+    return lib != 0 && open_tables(lib) && find(lib, list, sizeof list / sizeof *list);
 }
 
 /* The sources, P and Q that lie one after another at m. */
@@ -257,15 +306,12 @@ static void make_bits(void)
 
 static int open_jerasure(void)
 {
-    void *lib = code == 1 ? dlopen("libJerasure.so.2", RTLD_NOW) : 0;
-    if (lib == 0)
-        return 0;
-    make_schedule = dlsym(lib, "jerasure_smart_bitmatrix_to_schedule");
-    invert_bits = dlsym(lib, "jerasure_invert_bitmatrix");
-    schedule_encode = dlsym(lib, "jerasure_schedule_encode");
-    cached = dlsym(lib, "jerasure_schedule_decode_cache");
-    lazy = dlsym(lib, "jerasure_schedule_decode_lazy");
-    if (!make_schedule || !invert_bits || !schedule_encode || !cached || !lazy)
+    static const struct function list[] = {
+        {&make_schedule, "jerasure_smart_bitmatrix_to_schedule"}, {&invert_bits, "jerasure_invert_bitmatrix"},
+        {&schedule_encode, "jerasure_schedule_encode"}, {&cached, "jerasure_schedule_decode_cache"},
+        {&lazy, "jerasure_schedule_decode_lazy"},
+    };
+    if (code != 1 || !find(dlopen("libJerasure.so.2", RTLD_NOW), list, sizeof list / sizeof *list))
         return 0;
     make_bits();
     schedule = make_schedule(p - 1, 2, p - 1, bits);
@@ -336,16 +382,12 @@ static int (*raid_scan)(int *bad, int data, int parities, size_t bytes, void **b
 
 static int open_snapraid(void)
 {
-    void *lib = dlopen("libsnapraid.so", RTLD_NOW);
-    if (lib == 0)
-        return 0;
-    void (*init)(void) = dlsym(lib, "raid_init");
-    raid_gen = dlsym(lib, "raid_gen");
-    if (!init || !raid_gen)
+    void (*init)(void);
+    const struct function list[] = {{&init, "raid_init"}, {&raid_gen, "raid_gen"}, {&raid_scan, "raid_scan"}};
+    if (!find(dlopen("libsnapraid.so", RTLD_NOW), list, sizeof list / sizeof *list))
         return 0;
     init();
-    raid_scan = dlsym(lib, "raid_scan");
-    return raid_scan != 0;
+    return 1;
 }
 
 /* Answers as a finding does: none, one block, or no explanation. */
@@ -359,8 +401,11 @@ static void snapraid_bad(uint8_t *m)
 /* ---- who has which call ---- */
 
 void (*const calls[WHOS][CALLS])(uint8_t *) = {
-    [OURS] = {ours_encode, ours_broken, ours_write, ours_two, ours_one, ours_four, ours_clean, ours_bad, ours_two},
-    [SAME] = {c_encode, c_broken, c_write, c_two, c_one, c_four, c_clean, c_bad, c_two},
+    [OURS] = {ours_encode, ours_broken, ours_write, ours_two, ours_one, ours_four, ours_clean, ours_bad,
+              ours_run, ours_run_rows, ours_plan, ours_show, ours_job, ours_two},
+    [SAME] = {c_encode, c_broken, c_write, c_two, c_one, c_four, c_clean, c_bad, c_run, c_run_rows, [DECIDING] = c_two},
+    [LEAF] = {[RUN] = c_cells, [RUN_ROWS] = c_cells},
+    [SUMS] = {[RUN] = c_sums, [RUN_ROWS] = c_sums},
     [ISAL_SSE] = {isal_sse_encode, isal_sse_broken, isal_sse_write, isal_sse_two, isal_sse_one},
     [ISAL] = {isal_encode, isal_broken, isal_write, isal_two, isal_one},
     [JERASURE] = {[ENCODE] = jerasure_encode, [TWO_COLUMNS] = jerasure_two, [ONE_COLUMN] = jerasure_one},
@@ -378,9 +423,17 @@ static int opened(enum who who)
     return who != SNAPRAID || raid_scan != 0 || open_snapraid();
 }
 
+/* Plans are for RDP, and a job is no longer than the longest. */
+static int serves(enum call call)
+{
+    if (call >= RUN && call <= SHOW)
+        return code == 1;
+    return call != JOB || length + 7 <= ZIJRADUF_ANSWER_LONGEST;
+}
+
 int have(enum who who, enum call call)
 {
-    if (calls[who][call] == 0 || !opened(who))
+    if (calls[who][call] == 0 || !serves(call) || !opened(who))
         return 0;
     if (who == JERASURE && call != ENCODE)
         return make_cached(call == TWO_COLUMNS ? 2 : 1);
@@ -402,12 +455,18 @@ enum state state_of(enum who who, enum call call)
         return call == WRITE ? PIECES : VECTORS;
     if (who == SNAPRAID)
         return BLOCKS;
-    return who == MEMCPY ? ANY : call == BAD_COLUMN ? DAMAGED : ENCODED;
+    if (who == MEMCPY)
+        return ANY;
+    if (call >= RUN && call <= SHOW)
+        return SPARED;
+    return call == JOB ? JOB_BYTES : call == BAD_COLUMN ? DAMAGED : ENCODED;
 }
 
 size_t memory_of(enum state state)
 {
     switch (state) {
+    case SPARED: return length + rows * cell;
+    case JOB_BYTES: return ZIJRADUF_JOB_LONGEST + ZIJRADUF_ANSWER_LONGEST;
     case VECTORS: return (sources() + 2) * vector();
     case PIECES: return 3 * cell_vector();
     case BLOCKS: return (sources() + 2) * block();
@@ -416,11 +475,25 @@ size_t memory_of(enum state state)
     }
 }
 
+/* The fields of a job for the shape at hand, before the stripe. */
+static void put_head(uint8_t *m)
+{
+    const uint8_t head[JOB_HEAD] = {1, 0, 1, code, 2, 0, 1, p, 3, 0, 2, cell >> 8, cell, 4, 0, 8};
+    memcpy(m, head, sizeof head);
+    for (int k = 0; k < 4; k++)
+        m[16 + 2 * k] = lost_cells[k] >> 8, m[17 + 2 * k] = lost_cells[k];
+    m[24] = 5, m[25] = length >> 8, m[26] = length;
+}
+
 void prepare(enum state state, uint8_t *m)
 {
     fill(m, memory_of(state));
-    if (state == ENCODED || state == DAMAGED)
+    if (state == ENCODED || state == DAMAGED || state == SPARED)
         c_encode(m);
+    if (state == JOB_BYTES) {
+        put_head(m);
+        c_encode(m + JOB_HEAD);
+    }
     if (state == DAMAGED)
         damage(m + bad_column * rows * cell, rows * cell);
     if (state == VECTORS)

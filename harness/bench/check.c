@@ -328,34 +328,149 @@ static void check_scan(uint8_t *m)
     expect(SNAPRAID, m, 0, "good blocks are not found good");
 }
 
+/* ---- run by plan; plan, show and job, of which the stack is measured ---- */
+
+uint64_t cells_read(enum call call, uint8_t *read)
+{
+    uint64_t plan = call == RUN ? run_plan : 0, count = 0;
+    memset(read, 0, rows * columns);
+    for (uint64_t r = 0; r < rows; r++) {
+        uint64_t e = plan >> r & 1 ? rows + (r + lost_column) % p : r;
+        for (uint64_t c = 0; c < rows * columns; c++)
+            if (c / rows != lost_column && in_equation(e, c % rows, c / rows) && !read[c])
+                read[c] = 1, count++;
+    }
+    return count;
+}
+
+/* The lost column of an encoded stripe comes into the spare, whatever bytes lie in the cells
+ * that the plan doesn't read; the stripe stays. */
+static void check_run(enum who who, enum call call, uint8_t *m, uint8_t *after)
+{
+    static uint8_t read[961];
+    uint64_t reads = cells_read(call, read);
+    if (call == RUN && reads != zijraduf_plan(shape, lost_column).reads)
+        wrong(names[OURS], "the cells that a plan reads");
+    prepare(SPARED, after);
+    memcpy(after + length, after + lost_column * rows * cell, rows * cell);
+    for (uint64_t c = 0; c < rows * columns; c++)
+        if (!read[c])
+            fill(after + c * cell, cell);
+    memcpy(m, after, length);
+    fill(m + length, rows * cell);
+    calls[who][call](m);
+    if (answer != rows || memcmp(m + length, after + length, rows * cell) != 0)
+        wrong(names[who], "the lost column is not in the spare");
+    if (memcmp(m, after, length) != 0)
+        wrong(names[who], "a run changes the stripe");
+}
+
+static struct zijraduf_count run(enum who who, struct zijraduf_shape s, uint8_t *m, size_t spare, uint64_t k,
+                                 uint64_t plan, uint64_t first, uint64_t budget)
+{
+    return (who == OURS ? zijraduf_run : same_run)(s, m, length, k, plan, m + length, spare, first, budget);
+}
+
+/* A budget of one row sets that row alone; what is refused sets none. */
+static void check_rows(enum who who, uint8_t *m, uint8_t *before)
+{
+    static const uint64_t no[5] = {3, 5, 6, 6, 9};
+    prepare(SPARED, before);
+    memcpy(m, before, memory_of(SPARED));
+    for (int n = 0; n < 5; n++) {
+        struct zijraduf_shape s = shape;
+        s.code = n == 0 ? 2 : 1;
+        uint64_t k = n == 2 ? p + 1 : lost_column, plan = n == 4 ? 1ull << (p - 1 - k) : 0;
+        struct zijraduf_count a = run(who, s, m, rows * cell - (n == 1), k, plan, n == 3 ? p : 0, rows);
+        if (a.refusal != no[n] || a.count != 0)
+            wrong(names[who], "a refusal of run");
+    }
+    struct zijraduf_count none = run(who, shape, m, rows * cell, lost_column, 0, rows, rows);
+    if (none.refusal != 0 || none.count != 0 || memcmp(m, before, memory_of(SPARED)) != 0)
+        wrong(names[who], "a run of no row changes bytes");
+    struct zijraduf_count one = run(who, shape, m, rows * cell, lost_column, 0, 1, 1);
+    memcpy(before + length + cell, before + (lost_column * rows + 1) * cell, cell);
+    if (one.refusal != 0 || one.count != 1 || memcmp(m, before, memory_of(SPARED)) != 0)
+        wrong(names[who], "a run of one row");
+}
+
+/* The sums are the row parity column, which comes before the last one. */
+static void check_sums(enum who who, enum call call, uint8_t *m)
+{
+    prepare(SPARED, m);
+    calls[who][call](m);
+    if (memcmp(m + length, m + (p - 1) * rows * cell, rows * cell) != 0)
+        wrong(names[who], "its sums");
+}
+
+static void check_plan(uint8_t *m)
+{
+    calls[OURS][PLAN](m);
+    if (answer != 3 * rows * rows / 4)
+        wrong(names[OURS], "the reads of a plan");
+}
+
+static void check_show(uint8_t *m)
+{
+    calls[OURS][SHOW](m);
+    if (answer != (rows - 1) * cell)
+        wrong(names[OURS], "where a rebuilt cell is shown");
+}
+
+/* The answer has the stripe as it was before cells were lost. */
+static void check_job(uint8_t *m, uint8_t *encoded)
+{
+    const uint8_t head[7] = {6, 0, 1, 0, 5, length >> 8, length};
+    prepare(JOB_BYTES, m);
+    memcpy(encoded, m + JOB_HEAD, length);
+    lose(FOUR_CELLS, m + JOB_HEAD);
+    calls[OURS][JOB](m);
+    if (answer != length + 7 || memcmp(answer_at(m), head, 7) != 0 || memcmp(answer_at(m) + 7, encoded, length) != 0)
+        wrong(names[OURS], "the answer to a job");
+}
+
 /* ---- one call ---- */
 
-static void check_encodes(uint8_t *a, uint8_t *b)
+typedef void refusals(uint8_t *stripe, const uint8_t *before);
+typedef void changes(enum who who, uint8_t *stripe, const uint8_t *before);
+
+/* Encode and write start from any stripe. */
+static void check_both(refusals *refuse, changes *change, uint8_t *a, uint8_t *b)
 {
     fill(b, length);
     memcpy(a, b, length);
-    check_refusals(a, b);
-    check_encode(SAME, a, b);
-    check_encode(OURS, a, b);
+    refuse(a, b);
+    change(SAME, a, b);
+    change(OURS, a, b);
 }
 
-static void check_writes(uint8_t *a, uint8_t *b)
-{
-    fill(b, length);
-    memcpy(a, b, length);
-    check_write_refusals(a, b);
-    check_write(SAME, a, b);
-    check_write(OURS, a, b);
-}
-
-static void check_ours(enum who who, enum call call, uint8_t *a, uint8_t *b)
+static void check_lost(enum who who, enum call call, uint8_t *a, uint8_t *b)
 {
     if (call == BAD_COLUMN)
         check_bad_column(who, a, b);
+    else if (call == RUN || call == RUN_ROWS)
+        check_run(who, call, a, b);
     else
         check_rebuild(who, call, a, b);
     if (call == FOUR_CELLS)
         check_cells(who, a, b);
+    if (call == RUN)
+        check_rows(who, a, b);
+}
+
+static void check_ours(enum call call, uint8_t *a, uint8_t *b)
+{
+    switch (call) {
+    case ENCODE: check_both(check_refusals, check_encode, a, b); break;
+    case BROKEN: check_broken(a); break;
+    case WRITE: check_both(check_write_refusals, check_write, a, b); break;
+    case PLAN: check_plan(a); break;
+    case SHOW: check_show(a); break;
+    case JOB: check_job(a, b); break;
+    default:
+        check_lost(SAME, call, a, b);
+        check_lost(OURS, call, a, b);
+    }
 }
 
 static void check_isal(enum who who, enum call call, uint8_t *a, uint8_t *b)
@@ -372,22 +487,15 @@ static void check_isal(enum who who, enum call call, uint8_t *a, uint8_t *b)
 
 void check(enum call call)
 {
-    size_t most = 2 * length + 4096;
+    size_t most = 2 * length + 4096 + memory_of(JOB_BYTES);
     uint8_t *a = memory(most), *b = memory(most);
-    if (call == ENCODE)
-        check_encodes(a, b);
-    else if (call == BROKEN)
-        check_broken(a);
-    else if (call == WRITE)
-        check_writes(a, b);
-    else {
-        check_ours(SAME, call, a, b);
-        check_ours(OURS, call, a, b);
-    }
-    for (enum who who = ISAL_SSE; who <= SNAPRAID; who++) {
+    check_ours(call, a, b);
+    for (enum who who = LEAF; who <= SNAPRAID; who++) {
         if (!have(who, call))
             continue;
-        if (who == SNAPRAID)
+        if (who == LEAF || who == SUMS)
+            check_sums(who, call, a);
+        else if (who == SNAPRAID)
             check_scan(a);
         else if (who == JERASURE || who == LAZY)
             check_jerasure(who, call, a, b);

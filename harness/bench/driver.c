@@ -5,6 +5,7 @@
  *     driver count CODE P CELL CALL..        one call of each, for what counts around it
  *     driver calls CODE P CELL CALL WHO N    N calls of one, for a counter around it
  *     driver time CODE P CELL BYTES CALL..   GB/s of data, warm, and cold: BYTES push out
+ *     driver reads CODE P CELL CALL..        the distinct cells that run reads, and run-rows
  *     driver stack                           the most stack that a call uses
  *
  * CALL and WHO are names from calls.c; check lists who has which call, with the data
@@ -28,10 +29,18 @@ static void list(enum call call)
 static void check_all(void)
 {
     for (enum call call = 0; call < CALLS; call++)
-        if (wanted[call]) {
+        if (wanted[call] && have(OURS, call)) {
             check(call);
             list(call);
         }
+}
+
+static void reads_all(void)
+{
+    static uint8_t read[961];
+    if (wanted[RUN] && have(OURS, RUN))
+        for (enum call call = RUN; call <= RUN_ROWS; call++)
+            printf("%s %s %lu\n", call_names[call], names[OURS], cells_read(call, read));
 }
 
 /* ---- instructions ---- */
@@ -233,16 +242,16 @@ static size_t stack_of(enum call call, uint8_t *stack, uint8_t *stripe)
 
 static void stack_most(void)
 {
-    static const uint64_t primes[] = {3, 5, 17, 31}, cells[] = {1, 100, 512, 1000, 4096};
+    static const uint64_t primes[] = {3, 5, 7, 17, 31}, cells[] = {1, 100, 512, 1000, 4096};
     uint8_t *stack = memory(STACK);
     size_t most[CALLS] = {0};
-    stack_stripe = memory(961 * 4096);
+    stack_stripe = memory(990 * 4096);
     for (uint64_t c = 1; c <= 3; c++)
-        for (int k = 0; k < 4; k++)
+        for (int k = 0; k < 5; k++)
             for (int n = 0; n < 5; n++) {
                 set_shape(c, primes[k], cells[n]);
                 for (enum call call = 0; call < DECIDING; call++) {
-                    size_t used = stack_of(call, stack, stack_stripe);
+                    size_t used = have(OURS, call) ? stack_of(call, stack, stack_stripe) : 0;
                     if (used > most[call])
                         most[call] = used;
                 }
@@ -298,6 +307,8 @@ int main(int count, char **words)
         check_all();
     else if (strcmp(mode, "count") == 0 && want(5, count, words))
         count_all();
+    else if (strcmp(mode, "reads") == 0 && want(5, count, words))
+        reads_all();
     else if (strcmp(mode, "time") == 0 && want(6, count, words))
         time_all(number(words[5]));
     else if (strcmp(mode, "calls") == 0 && count == 8) {

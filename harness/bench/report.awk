@@ -63,6 +63,22 @@ function tables(kind, title) {
     printf "\n## %s\n", title
     table(kind, "Encode, broken, write", "encode broken write")
     table(kind, "Rebuild and bad column", "two-columns one-column four-cells clean bad-column")
+    table(kind, "Run by plan", "run run-rows")
+}
+
+# The cells that a run reads are as many whatever the size of a cell.
+function reads(    r, part, plan, alone, last) {
+    for (r = 1; r <= count; r++) if (is_of(rows[r], "run", 0)) {
+        split(rows[r], part, SUBSEP)
+        if (part[3] == last) continue
+        if (!last) {
+            printf "\n## Run by plan: distinct cells read, and by plan as a multiple (less is better)\n\n"
+            print "|  p | by plan | by rows alone | / rows |"; print "|---:|--------:|--------------:|-------:|"
+        }
+        last = part[3]
+        plan = value["reads", rows[r], "ours"]; alone = value["reads", same_row(rows[r], "run-rows", "", ""), "ours"]
+        printf "| %2d | %7d | %13d |%s\n", last, plan, alone, entry(plan / alone, 2, 6)
+    }
 }
 
 function deciding(    r, part, head) {
@@ -77,11 +93,12 @@ function deciding(    r, part, head) {
     }
 }
 
-# A bar over rows: take() gathers, judge() prints the worst of them.
+# A bar over rows, or no bar where the limit is "": take() gathers, judge() prints the worst
+# of them.
 function take(x, row,    part) {
     if (x == "") return
     taken++
-    if (x > limit) over++
+    if (limit != "" && x > limit) over++
     if (taken == 1 || x > worst) {
         worst = x
         split(row, part, SUBSEP)
@@ -90,8 +107,9 @@ function take(x, row,    part) {
 }
 
 function judge(name) {
-    if (taken == 0) printf "- not measured: %s at most %s\n", name, limit
-    else printf "- %s: %s at most %s; the most is %s (%s)%s\n", over ? "MISSED" : "ok", name, limit, \
+    if (limit != "") name = name " at most " limit
+    if (taken == 0) printf "- not measured: %s\n", name
+    else printf "- %s: %s; the most is %s (%s)%s\n", limit == "" ? "no bar" : over ? "MISSED" : "ok", name, \
         worst < 1000 ? sprintf("%.3f", worst) : worst, where, over ? sprintf("; %d of %d over", over, taken) : ""
     taken = over = 0
 }
@@ -117,11 +135,13 @@ function bar_to_call(call, other, most, large,    r) {
     judge(call " / " other)
 }
 
-function bar_to_c(call, most, large,    r) {
+function bar_to(call, who, name, most, large,    r) {
     limit = most
-    for (r = 1; r <= count; r++) if (is_of(rows[r], call, large)) take(ratio(kind, rows[r], "c"), rows[r])
-    judge(call " / the same algorithm in C")
+    for (r = 1; r <= count; r++) if (is_of(rows[r], call, large)) take(ratio(kind, rows[r], who), rows[r])
+    judge(call " / " name)
 }
+
+function bar_to_c(call, most, large) { bar_to(call, "c", "the same algorithm in C", most, large) }
 
 function bar_of_row(row, name, most) {
     limit = most
@@ -129,17 +149,20 @@ function bar_of_row(row, name, most) {
     judge(name)
 }
 
+function stack_of(call) { return value["stack", call SUBSEP 0 SUBSEP 0 SUBSEP 0, "ours"] }
+
 function bar_of_stack(call,    used) {
-    used = value["stack", call SUBSEP 0 SUBSEP 0 SUBSEP 0, "ours"]
+    used = stack_of(call)
     printf "- %s: stack of %s at most 65536 bytes; the most is %d\n", (used > 65536 ? "MISSED" : "ok"), call, used
 }
 
 END {
-    split("ours c isal-sse isal jerasure lazy snapraid memcpy", whos, " ")
-    split("ours,C,ISA-L SSE,ISA-L,Jerasure,lazy,snapraid,memcpy", heads, ",")
+    split("ours c leaf sums isal-sse isal jerasure lazy snapraid memcpy", whos, " ")
+    split("ours,C,leaf,sums,ISA-L SSE,ISA-L,Jerasure,lazy,snapraid,memcpy", heads, ",")
     split("RDP,H-Code,X-Code", codes, ",")
     tables("instructions", "Instructions per data byte, of write per byte of the cell, and ours as a multiple (less is better)")
     deciding()
+    reads()
     tables("warm", "GB/s of data, warm, and ours as a multiple (more is better)")
     tables("cold", "GB/s of data, cold, and ours as a multiple (more is better)")
 
@@ -164,13 +187,16 @@ END {
     bar_to_call("four-cells", "encode", 2.2, 1)
     bar_to_call("clean", "broken", 1.15, 1)
     bar_to_call("bad-column", "broken", 3.5, 1)
-    n = split("two-columns one-column four-cells clean bad-column", list, " ")
+    n = split("two-columns one-column four-cells clean bad-column run run-rows", list, " ")
     for (k = 1; k <= n; k++) bar_to_c(list[k], 1.1, 1)
+    bar_to("run", "leaf", "(p - 1)^2 cell XORs by the leaf", 1.05, 1)
+    bar_to("run", "sums", "the sums of its cells alone", "", 1)
     limit = 400000
     for (r = 1; r <= count; r++) if (is_of(rows[r], "deciding", 0)) take(value[kind, rows[r], "ours"], rows[r])
     judge("deciding, instructions")
 
     printf "\n"
-    n = split("encode broken write two-columns one-column four-cells clean bad-column", list, " ")
+    n = split("encode broken write two-columns one-column four-cells clean bad-column run run-rows plan show", list, " ")
     for (k = 1; k <= n; k++) bar_of_stack(list[k])
+    printf "- no bar: stack of job; the most is %d\n", stack_of("job")
 }

@@ -256,14 +256,20 @@ static int is_listed(uint64_t p)
     }
 }
 
-static uint64_t stripe_refusal(struct zijraduf_shape shape, size_t bytes)
+static uint64_t shape_refusal(struct zijraduf_shape shape)
 {
     if (shape.code == 0 || 3 < shape.code)
         return 1;
     if (!is_listed(shape.p))
         return 2;
-    if (shape.cell == 0 || 4096 < shape.cell)
-        return 4;
+    return shape.cell == 0 || 4096 < shape.cell ? 4 : 0;
+}
+
+static uint64_t stripe_refusal(struct zijraduf_shape shape, size_t bytes)
+{
+    uint64_t refusal = shape_refusal(shape);
+    if (refusal != 0)
+        return refusal;
     return bytes != cell_count(shape) * shape.cell ? 5 : 0;
 }
 
@@ -646,12 +652,13 @@ static uint64_t union_of(const uint64_t sets[SETS], uint64_t n)
     return all;
 }
 
+/* Inlined here and called by a run: each takes the fewest instructions so. */
 static void put_total(struct zijraduf_shape shape, const uint8_t *stripe, uint64_t q, size_t at, size_t n,
                       uint8_t lanes[LANES])
 {
     uint64_t places[PLACES] = {0};
     uint64_t count = cells_of(shape, q, places);
-    put_sum_from(lanes, q * LANE, stripe, places, count, at, n);
+    [[clang::always_inline]] put_sum_from(lanes, q * LANE, stripe, places, count, at, n);
 }
 
 /* The totals of a set of equations, of the n bytes from `at` on. */
@@ -896,4 +903,105 @@ struct zijraduf_finding same_bad_column(struct zijraduf_shape shape, const uint8
     if (q == equation_count(shape))
         return (struct zijraduf_finding){0, ZIJRADUF_CLEAN, 0};
     return name_column(shape, stripe, q);
+}
+
+/* ---- run by plan: RDP with one lost column ---- */
+
+static uint64_t rdp_refusal(struct zijraduf_shape shape)
+{
+    uint64_t refusal = shape_refusal(shape);
+    if (refusal == 1 || refusal == 2)
+        return refusal;
+    return shape.code != 1 ? 3 : refusal;
+}
+
+/* Row p - 1 - k of column k lies on the missing diagonal, and the diagonal parity column
+ * has no other way. */
+static int is_accepted(struct zijraduf_shape shape, uint64_t k, uint64_t plan)
+{
+    uint64_t last = shape.p - 1, bound = one_bit(last);
+    if (bound <= plan)
+        return 0;
+    if (k == shape.p)
+        return plan == bound - 1;
+    return k == 0 || (plan & one_bit(last - k)) == 0;
+}
+
+static uint64_t run_refusal(struct zijraduf_shape shape, size_t bytes, size_t spare, uint64_t k, uint64_t plan,
+                            uint64_t first)
+{
+    uint64_t refusal = rdp_refusal(shape);
+    if (refusal != 0)
+        return refusal;
+    if (bytes != cell_count(shape) * shape.cell || spare != row_count(shape) * shape.cell)
+        return 5;
+    if (column_count(shape) <= k || shape.p <= first)
+        return 6;
+    return is_accepted(shape, k, plan) ? 0 : 9;
+}
+
+/* The equation by which a plan takes row i of column k: its row or its diagonal. */
+static uint64_t equation_for(struct zijraduf_shape shape, uint64_t k, uint64_t plan, uint64_t i)
+{
+    uint64_t n = shape.p - 1;
+    if ((plan & one_bit(i)) == 0)
+        return i;
+    return n + (k == shape.p ? i : turned(i, k, shape.p));
+}
+
+/* The cells of an equation other than cell `own`: its parity cell takes the place of that
+ * one. Gives how many. */
+static uint64_t others_of(struct zijraduf_shape shape, uint64_t q, uint64_t own, uint64_t places[PLACES])
+{
+    struct sources from = sources_of(shape, q, places);
+    size_t at = own * shape.cell;
+    if (at == from.to)
+        return from.count;
+    uint64_t m = 0;
+    while (places[m] != at)
+        m++;
+    places[m] = from.to;
+    return from.count;
+}
+
+static void rebuild_row(struct zijraduf_shape shape, const uint8_t *stripe, uint64_t k, uint64_t plan, uint64_t i,
+                        uint8_t *part)
+{
+    uint64_t places[PLACES] = {0};
+    uint64_t q = equation_for(shape, k, plan, i);
+    uint64_t count = others_of(shape, q, k * (shape.p - 1) + i, places);
+    put_sum_from(part, 0, stripe, places, count, 0, shape.cell);
+}
+
+struct zijraduf_count same_run(struct zijraduf_shape shape, const uint8_t *stripe, size_t length, uint64_t k,
+                               uint64_t plan, uint8_t *spare, size_t spare_length, uint64_t first, uint64_t budget)
+{
+    uint64_t refusal = run_refusal(shape, length, spare_length, k, plan, first);
+    if (refusal != 0)
+        return (struct zijraduf_count){refusal, 0};
+    uint64_t left = shape.p - 1 - first, n = budget < left ? budget : left;
+    for (uint64_t i = first; i < first + n; i++)
+        rebuild_row(shape, stripe, k, plan, i, spare + i * shape.cell);
+    return (struct zijraduf_count){0, n};
+}
+
+/* The row parity column into the spare, a cell after the other, with the places of row 0 for every row. */
+void same_cells(struct zijraduf_shape shape, const uint8_t *stripe, uint8_t *spare)
+{
+    uint64_t places[PLACES] = {0}, rows = row_count(shape);
+    uint64_t count = sources_of(shape, 0, places).count;
+    for (uint64_t i = 0; i < rows; i++) {
+        put_sum_from(spare, i * shape.cell, stripe, places, 1, i * shape.cell, shape.cell);
+        for (uint64_t k = 1; k < count; k++)
+            add_sum(spare, i * shape.cell, stripe, &places[k], 1, i * shape.cell, shape.cell);
+    }
+}
+
+/* The same, all cells of a row at once. */
+void same_sums(struct zijraduf_shape shape, const uint8_t *stripe, uint8_t *spare)
+{
+    uint64_t places[PLACES] = {0}, rows = row_count(shape);
+    uint64_t count = sources_of(shape, 0, places).count;
+    for (uint64_t i = 0; i < rows; i++)
+        put_sum_from(spare, i * shape.cell, stripe, places, count, i * shape.cell, shape.cell);
 }
