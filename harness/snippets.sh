@@ -1,14 +1,38 @@
 #!/bin/sh
-# Compiles the README's C snippet against the header and the library, and runs it: status 0 says that it does what it says.
+# Tests the README's snippets: the one in C is compiled against the header and the library and run, the one in Rattle is the program that the
+# toolchain proves and runs, the one with a job prints what it says, and the example's output is what the example prints.
 set -eu
 ROOT=$(cd "$(dirname "$0")/.." && pwd)
 . "$ROOT/harness/kit.sh"
 LIB=$ROOT/target/staticlib/libzijraduf.a
 [ -f "$LIB" ] || (cd "$ROOT" && rt staticlib zijraduf)
+[ -f "$ROOT/target/bin/job" ] || (cd "$ROOT" && rt check job)
 mkdir -p "$BUILD"
-awk '/^```c$/ { inside = 1; next } /^```$/ { inside = 0 } inside' "$ROOT/README.md" >"$BUILD/snippet.c"
-[ -s "$BUILD/snippet.c" ] || { echo "no C snippet in README.md" >&2; exit 1; }
+
+# snippet KIND FILE: the README's block of a kind.
+snippet() {
+    awk -v start="\`\`\`$1" '$0 == start { inside = 1; next } /^```$/ { inside = 0 } inside' "$ROOT/README.md" >"$2"
+    [ -s "$2" ] || { echo "README.md has no snippet of the kind $1" >&2; exit 1; }
+}
+
+snippet c "$BUILD/snippet.c"
 kit_cc "$BUILD/snippet.c" "$BUILD/snippet.o" -I"$ROOT/include"
 kit_link "$BUILD/snippet" "$BUILD/snippet.o" "$LIB"
 kit_run "$BUILD/snippet"
 echo "the C snippet of README.md ran as it says"
+
+snippet rust "$BUILD/snippet.rt"
+diff "$BUILD/snippet.rt" "$ROOT/crates/example/src/main.rt"
+echo "the Rattle snippet of README.md is the example program"
+
+snippet shell "$BUILD/snippet.sh"
+job() { kit_run "$ROOT/target/bin/job"; }
+sed -i 's#target/bin/job#job#' "$BUILD/snippet.sh"
+printed=$(. "$BUILD/snippet.sh")
+expected=$(sed -n '$s/^#//p' "$BUILD/snippet.sh")
+[ "$printed" = "$expected" ] || { echo "the job snippet printed$printed, not$expected" >&2; exit 1; }
+echo "the job snippet of README.md printed what it says"
+
+snippet text "$BUILD/snippet.txt"
+"$ROOT/harness/example.sh" 2>"$BUILD/example.log" | diff "$BUILD/snippet.txt" -
+echo "the example printed what README.md says"
