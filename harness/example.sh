@@ -76,10 +76,11 @@ answer() {
 
 stripe='4f 52 44 45 52 53 20 37 20 40 20 31 39 2e 35 30 04 6f 71 73 24 41 44 1c'
 echo 'RDP, p = 5: 4 rows on 6 disks, cells of one byte. Disks 0 to 3 hold an order, disk 4 the parity of the rows, disk 5 that of the diagonals.'
+echo 'A cell is one letter, written as a number (4f is O): read down disk 0, then disks 1, 2 and 3.'
 echo
-echo '1. Disks 1 and 4 are gone. Cells (??) are lost: the job has the byte ee there, which plays no part.'
+echo '1. Disks 1 and 4 are gone. Cells (??) are lost: what stands there plays no part (the job sends ee).'
 answer "$stripe" '4 5 6 7 16 17 18 19'
-echo '   0 says: this is the one stripe that fits everything that is left. Cells in [ ] came back.'
+echo '   0 says: this is the one stripe that fits everything that is left, so it is the right one if all that is left is right. Cells in [ ] came back.'
 echo
 echo "2. Disks 1 and 4 are gone, and disk 2 can't read its first cell."
 answer "$stripe" '4 5 6 7 8 16 17 18 19'

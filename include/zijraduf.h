@@ -1,7 +1,10 @@
 /* zijraduf: parity for stripes of RDP, H-Code and X-Code, proved.
  *
- * Link libzijraduf.a (x86-64 Linux). The library keeps no state, allocates
- * nothing and takes no locks: calls on different stripes may run at once.
+ * Link libzijraduf.a (x86-64 Linux; it needs memcpy and memset). The library
+ * keeps no state, allocates nothing and takes no locks. A call that writes
+ * (encode, write and the rebuilds the stripe, run the spare, job the output) needs
+ * that buffer to itself while it runs; calls that only read may share one. Stack:
+ * less than 40 KiB, zijraduf_job less than 88 KiB (measured).
  *
  * A stripe is rows x columns cells of `cell` bytes each, by the code:
  *
@@ -32,7 +35,7 @@
  *     7   a small write to a parity cell
  *     8   new bytes that are not one cell long
  *     9   a plan that is not accepted
- *     10  a show of a row that is not rebuilt yet
+ *     10  a show of a row that is not done yet
  *     11  undetermined: the cells that aren't lost don't fix the lost ones
  *     12  the cells that aren't lost disagree: no encoded stripe has their bytes
  *     13  bytes that are no job (zijraduf_job alone)
@@ -79,7 +82,9 @@ struct zijraduf_count zijraduf_broken(struct zijraduf_shape shape, const uint8_t
  * that depend on it, as far as the equations say: with the difference of old
  * and new bytes put alone into a stripe of zero data and encoded, the stripe
  * afterwards is the XOR of the old stripe with that one. An encoded stripe stays
- * encoded. Only the data cell and the parity cells that depend on it change.
+ * encoded. Only the data cell and the parity cells that depend on it change. The
+ * bytes found in the cell are taken as its old content: rebuild a lost cell before
+ * you write to it.
  * Gives how many parity cells depend on this position, whatever the bytes: 2 for
  * H-Code and X-Code; for RDP 2 where row = 0 or row + column = p - 1, else 3.
  * Or refusal 1, 2, 4, 5, 6, 7 or 8, with every byte as it was. */
@@ -93,7 +98,7 @@ struct zijraduf_count zijraduf_write(struct zijraduf_shape shape, uint8_t *strip
  * and the bytes found in lost cells have no effect. An empty list asks whether
  * the stripe is encoded: 0 if so, else 12.
  * Returns 0, and the stripe is encoded: it is the one encoded stripe with these
- * survivors, so nothing in it is a guess. Or refusal 1, 2, 4, 5, 6, 11 or 12,
+ * survivors, so nothing in it is a guess if they are right. Or refusal 1, 2, 4, 5, 6, 11 or 12,
  * with every byte as it was.
  *
  * 11 says that the survivors can't fix the lost cells: there are different
@@ -163,7 +168,9 @@ struct zijraduf_read_plan zijraduf_plan(struct zijraduf_shape shape, uint64_t k)
  * cells of its equation, its diagonal where the plan's bit is 1 and its row where it
  * is 0: of an encoded stripe that is what column k held. The bytes found in
  * column k have no effect, the stripe is only read, and no other byte of the
- * spare changes. The plan need not be zijraduf_plan's: it is accepted exactly when
+ * spare changes. A run does not ask whether the other columns agree: rebuild
+ * columns, of k alone, does. If another column changes between two runs, rows in
+ * the spare may be out of date: start again from row 0. The plan need not be zijraduf_plan's: it is accepted exactly when
  * it has no bit above p - 2, no diagonal for row p - 1 - k if k is 1 to p - 1, and
  * all p - 1 bits if k = p. First row p - 1 is allowed and leaves nothing to do.
  * Gives how many rows it rebuilt, or refusal 1, 2, 3, 4, 5, 6 or 9 with every byte
@@ -189,8 +196,8 @@ struct zijraduf_part {
 };
 
 /* Show: where to read a cell while column k is being rebuilt and the rows below
- * `done` are in the spare: in the stripe if its column is another, in the spare if
- * its row is done. C can't be handed a part of a buffer, so this says which buffer,
+ * `done` are in the spare, which the caller says: in the stripe if its column is
+ * another, in the spare if its row is done. C can't be handed a part of a buffer, so this says which buffer,
  * where the part starts and how long it is. No byte of either is read.
  * Gives the part, or refusal 1, 2, 3, 4, 5, 6 or 10. */
 struct zijraduf_part zijraduf_show(struct zijraduf_shape shape, const uint8_t *stripe, size_t length,
@@ -218,8 +225,9 @@ enum {
  * The answer is field 06, one byte: 0, or the refusal number of the rebuild of these
  * cells (1, 2, 4, 5, 6, 11 or 12), or 13 where the bytes are no job. After 0 field 05
  * follows with the stripe.
- * Returns how long the answer is. Where `room` is no less, the output begins with
- * the answer and its other bytes are as they were; else all are. */
+ * Returns the length n of the answer. If `room` is n or more, the first n bytes of
+ * the output are the answer and the others are as they were. If it is less, no byte
+ * changes: ZIJRADUF_ANSWER_LONGEST is always enough. */
 size_t zijraduf_job(const uint8_t *input, size_t length, uint8_t *output, size_t room);
 
 #ifdef __cplusplus
