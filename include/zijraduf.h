@@ -54,7 +54,7 @@
 extern "C" {
 #endif
 
-/* What describes a stripe. It goes by value into every call. */
+/* What describes a stripe. It goes by value into every call on a stripe. */
 struct zijraduf_shape {
     uint64_t code; /* 1 RDP, 2 H-Code, 3 X-Code */
     uint64_t p;    /* the prime */
@@ -98,8 +98,8 @@ struct zijraduf_count zijraduf_write(struct zijraduf_shape shape, uint8_t *strip
  * and the bytes found in lost cells have no effect. An empty list asks whether
  * the stripe is encoded: 0 if so, else 12.
  * Returns 0, and the stripe is encoded: it is the one encoded stripe with these
- * survivors, so nothing in it is a guess if they are right. Or refusal 1, 2, 4, 5, 6, 11 or 12,
- * with every byte as it was.
+ * survivors, so nothing in it is a guess if they are right. Or refusal 1, 2, 4, 5,
+ * 6, 11 or 12, with every byte as it was.
  *
  * 11 says that the survivors can't fix the lost cells: there are different
  * encoded stripes with the same survivors. Which cells are named decides that,
@@ -170,9 +170,10 @@ struct zijraduf_read_plan zijraduf_plan(struct zijraduf_shape shape, uint64_t k)
  * column k have no effect, the stripe is only read, and no other byte of the
  * spare changes. A run does not ask whether the other columns agree: rebuild
  * columns, of k alone, does. If another column changes between two runs, rows in
- * the spare may be out of date: start again from row 0. The plan need not be zijraduf_plan's: it is accepted exactly when
- * it has no bit above p - 2, no diagonal for row p - 1 - k if k is 1 to p - 1, and
- * all p - 1 bits if k = p. First row p - 1 is allowed and leaves nothing to do.
+ * the spare may be out of date: start again from row 0. The plan need not be
+ * zijraduf_plan's: it is accepted exactly when it has no bit above p - 2, no
+ * diagonal for row p - 1 - k if k is 1 to p - 1, and all p - 1 bits if k = p. First
+ * row p - 1 is allowed and leaves nothing to do.
  * Gives how many rows it rebuilt, or refusal 1, 2, 3, 4, 5, 6 or 9 with every byte
  * as it was. */
 struct zijraduf_count zijraduf_run(struct zijraduf_shape shape, const uint8_t *stripe, size_t length,
@@ -197,8 +198,9 @@ struct zijraduf_part {
 
 /* Show: where to read a cell while column k is being rebuilt and the rows below
  * `done` are in the spare, which the caller says: in the stripe if its column is
- * another, in the spare if its row is done. C can't be handed a part of a buffer, so this says which buffer,
- * where the part starts and how long it is. No byte of either is read.
+ * another, in the spare if its row is done. C can't be handed a part of a buffer,
+ * so this says which buffer, where the part starts and how long it is. No byte of
+ * either is read.
  * Gives the part, or refusal 1, 2, 3, 4, 5, 6 or 10. */
 struct zijraduf_part zijraduf_show(struct zijraduf_shape shape, const uint8_t *stripe, size_t length,
                                    const uint8_t *spare, size_t spare_length, uint64_t k,
