@@ -189,8 +189,8 @@ END {
     bar_to_call("bad-column", "broken", 3.5, 1)
     n = split("two-columns one-column four-cells clean bad-column run run-rows", list, " ")
     for (k = 1; k <= n; k++) bar_to_c(list[k], 1.1, 1)
-    bar_to("run", "leaf", "(p - 1)^2 cell XORs by the leaf", 1.05, 1)
-    bar_to("run", "sums", "the sums of its cells alone", "", 1)
+    bar_to("run", "sums", "its (p - 1)^2 cell XORs by the leaf that sums runs", 1.05, 1)
+    bar_to("run", "leaf", "its (p - 1)^2 cell XORs one at a time", "", 1)
     limit = 400000
     for (r = 1; r <= count; r++) if (is_of(rows[r], "deciding", 0)) take(value[kind, rows[r], "ours"], rows[r])
     judge("deciding, instructions")
