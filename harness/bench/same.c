@@ -6,6 +6,7 @@
 
 #define BLOCK 128
 #define PLACES 32
+#define SLOTS 64
 #define LANE 512
 #define SETS 64
 #define LANES (SETS * LANE)
@@ -940,37 +941,45 @@ static uint64_t run_refusal(struct zijraduf_shape shape, size_t bytes, size_t sp
     return is_accepted(shape, k, plan) ? 0 : 9;
 }
 
-/* The equation by which a plan takes row i of column k: its row or its diagonal. */
-static uint64_t equation_for(struct zijraduf_shape shape, uint64_t k, uint64_t plan, uint64_t i)
+/* Where the cells start from which a row of column k is rebuilt by its row, as if the row were row 0. The parity cell's
+ * place stands in for column k's. */
+static void row_places(struct zijraduf_shape shape, uint64_t k, uint64_t places[PLACES])
+{
+    uint64_t n = shape.p - 1, step = n * shape.cell;
+    for (uint64_t j = 0; j < n; j++)
+        places[j] = j * step;
+    if (k < n)
+        places[k] = n * step;
+}
+
+/* The two slots of column j: for a diagonal that meets it in row d - j, and for one that meets it in row d + p - j. */
+static void put_column(uint64_t places[SLOTS], uint64_t p, uint64_t j, uint64_t above, uint64_t below)
+{
+    uint64_t slot = p - 1 - j;
+    places[slot] = above;
+    places[slot + p] = below;
+}
+
+/* The same by its diagonal, as if the diagonal were diagonal 0. */
+static void diagonal_places(struct zijraduf_shape shape, uint64_t k, uint64_t places[SLOTS])
+{
+    uint64_t p = shape.p, n = p - 1, step = (n - 1) * shape.cell, turn = p * shape.cell;
+    for (uint64_t j = 0; j < p; j++)
+        put_column(places, p, j, j * step, j * step + turn);
+    if (k < p)
+        put_column(places, p, k, n * turn, n * turn);
+}
+
+static void rebuild_row(struct zijraduf_shape shape, const uint8_t *stripe, const uint64_t *level, const uint64_t *slant,
+                        uint64_t k, uint64_t plan, uint64_t i, uint8_t *part)
 {
     uint64_t n = shape.p - 1;
-    if ((plan & one_bit(i)) == 0)
-        return i;
-    return n + (k == shape.p ? i : turned(i, k, shape.p));
-}
-
-/* The cells of an equation other than cell `own`: its parity cell takes the place of that
- * one. Gives how many. */
-static uint64_t others_of(struct zijraduf_shape shape, uint64_t q, uint64_t own, uint64_t places[PLACES])
-{
-    struct sources from = sources_of(shape, q, places);
-    size_t at = own * shape.cell;
-    if (at == from.to)
-        return from.count;
-    uint64_t m = 0;
-    while (places[m] != at)
-        m++;
-    places[m] = from.to;
-    return from.count;
-}
-
-static void rebuild_row(struct zijraduf_shape shape, const uint8_t *stripe, uint64_t k, uint64_t plan, uint64_t i,
-                        uint8_t *part)
-{
-    uint64_t places[PLACES] = {0};
-    uint64_t q = equation_for(shape, k, plan, i);
-    uint64_t count = others_of(shape, q, k * (shape.p - 1) + i, places);
-    put_sum_from(part, 0, stripe, places, count, 0, shape.cell);
+    if ((plan & one_bit(i)) == 0) {
+        put_sum_from(part, 0, stripe, level, n, i * shape.cell, shape.cell);
+        return;
+    }
+    uint64_t d = turned(i, k, shape.p);
+    put_sum_from(part, 0, stripe, slant + (n - d), n, d * shape.cell, shape.cell);
 }
 
 struct zijraduf_count same_run(struct zijraduf_shape shape, const uint8_t *stripe, size_t length, uint64_t k,
@@ -980,8 +989,11 @@ struct zijraduf_count same_run(struct zijraduf_shape shape, const uint8_t *strip
     if (refusal != 0)
         return (struct zijraduf_count){refusal, 0};
     uint64_t left = shape.p - 1 - first, n = budget < left ? budget : left;
+    uint64_t level[PLACES] = {0}, slant[SLOTS] = {0};
+    row_places(shape, k, level);
+    diagonal_places(shape, k, slant);
     for (uint64_t i = first; i < first + n; i++)
-        rebuild_row(shape, stripe, k, plan, i, spare + i * shape.cell);
+        rebuild_row(shape, stripe, level, slant, k, plan, i, spare + i * shape.cell);
     return (struct zijraduf_count){0, n};
 }
 

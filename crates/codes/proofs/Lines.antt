@@ -9,7 +9,8 @@ use lib.Arith.{digits-lt, digits-div, digits-mod}
 use lib.Dec.{eqb, ltb}
 use borrow.Author.Tests.{lt-ltb, le-ltb, eq-eqb, ne-eqb, ltb-true, eqb-true, eqb-false, not-true}
 use Rattle.xor.proofs.Cases.{by-equal, and-left, and-right, and-both}
-use Rattle.xor.proofs.Sums.{Lists, xors-listed}
+use Rattle.xor.specs.Xor.{xors}
+use Rattle.xor.proofs.Sums.{xors-same, Lists, xors-listed}
 use Rattle.codes.specs.declared.Shape.{Shape}
 use Rattle.codes.specs.declared.Line.{Line}
 use Rattle.codes.specs.Shape.{rows, columns, cells, cellNumber, equations, WellFormed}
@@ -165,6 +166,13 @@ module _ (s : Shape) (w : WellFormed s) where
             plain : (n : ℕ) → 0 + 1 * n ≡ n
             plain n = omega arith
 
+    -- a cell of diagonal d is where the line passes its row
+    rdp-back : (d i j : ℕ) → j < s .p → (i + j) % s .p ≡ d → (d + (s .p - 1) * i) % s .p ≡ j
+    rdp-back d i j lj h = ap (λ (n : ℕ). (n + (s .p - 1) * i) % s .p) (sym h) ∙ mod-add-mod (i + j) (s .p) ((s .p - 1) * i) ∙ ap (λ (n : ℕ). n % s .p) whole ∙ turns (s .p) i j ∙ mod-eq-of-lt lj
+      where
+        whole : i + j + (s .p - 1) * i ≡ i * s .p + j
+        whole = omega (arith, steps-back (s .p) i (let pos : 0 < s .p = omega (arith, low s w) in pos))
+
     pub rdp-diagonal : (q : ℕ) → s .p - 1 ≤ q → q < equations s
         → Walks s q (fallen (s .p * (s .p - 1) + (q - (s .p - 1))) (s .p - 1) (q - (s .p - 1)) (s .p - 1))
     rdp-diagonal q lo hi =
@@ -177,7 +185,7 @@ module _ (s : Shape) (w : WellFormed s) where
         (λ i j li lj p.
         let rest = and-right (ltb j (s .p)) (ltb i (s .p - 1) && eqb ((i + j) % s .p) d) p in (
           ltb-true i (s .p - 1) (and-left (ltb i (s .p - 1)) (eqb ((i + j) % s .p) d) rest),
-          back i j (ltb-true j (s .p) (and-left (ltb j (s .p)) (ltb i (s .p - 1) && eqb ((i + j) % s .p) d) p)) (eqb-true ((i + j) % s .p) d (and-right (ltb i (s .p - 1)) (eqb ((i + j) % s .p) d) rest)),
+          rdp-back d i j (ltb-true j (s .p) (and-left (ltb j (s .p)) (ltb i (s .p - 1) && eqb ((i + j) % s .p) d) p)) (eqb-true ((i + j) % s .p) d (and-right (ltb i (s .p - 1)) (eqb ((i + j) % s .p) d) rest)),
         ))
         )
       where
@@ -197,12 +205,23 @@ module _ (s : Shape) (w : WellFormed s) where
             whole : k + (d + (s .p - 1) * k) ≡ k * s .p + d
             whole = omega (arith, steps-back (s .p) k pos)
 
-        -- a cell of diagonal d is where the line passes its row
-        back : (i j : ℕ) → j < s .p → (i + j) % s .p ≡ d → (d + (s .p - 1) * i) % s .p ≡ j
-        back i j lj h = ap (λ (n : ℕ). (n + (s .p - 1) * i) % s .p) (sym h) ∙ mod-add-mod (i + j) (s .p) ((s .p - 1) * i) ∙ ap (λ (n : ℕ). n % s .p) whole ∙ turns (s .p) i j ∙ mod-eq-of-lt lj
-          where
-            whole : i + j + (s .p - 1) * i ≡ i * s .p + j
-            whole = omega (arith, steps-back (s .p) i pos)
+    -- what a row sums, column after column
+    pub rdp-row-sum : (q : ℕ) → q < s .p - 1 → (f : ℕ → ℕ) → sumOver s q f ≡ xors (s .p - 1) (λ j. f (cellNumber s q j))
+    unfolding lineCell
+    rdp-row-sum q l f =
+        rdp-row q l .sum f
+        ∙ xors-same (s .p - 1) (λ j. f (cellNumber s (q + 0 * j) ((0 + 1 * j) % s .p))) (λ j. f (cellNumber s q j))
+        (λ j lj. ap f (ap₂ (cellNumber s) (let same : q + 0 * j ≡ q = omega arith in same) (ap (λ (n : ℕ). n % s .p) (let same : 0 + 1 * j ≡ j = omega arith in same) ∙ mod-eq-of-lt (omega arith))))
+
+    -- what diagonal d sums, row after row: the cell of each row that is on it
+    pub rdp-diagonal-sum : (d : ℕ) → d < s .p - 1 → (column : ℕ → ℕ) → ((i : ℕ) → i < s .p - 1 → (column i < s .p) × ((i + column i) % s .p ≡ d))
+        → (f : ℕ → ℕ) → sumOver s (s .p - 1 + d) f ≡ xors (s .p - 1) (λ i. f (cellNumber s i (column i)))
+    unfolding lineCell
+    rdp-diagonal-sum d l column on f =
+        rdp-diagonal (s .p - 1 + d) (omega arith) (omega (arith, equations-other s w (λ e. omega arith))) .sum f
+        ∙ xors-same (s .p - 1) (λ i. f (cellNumber s (0 + 1 * i) ((s .p - 1 + d - (s .p - 1) + (s .p - 1) * i) % s .p))) (λ i. f (cellNumber s i (column i)))
+        (λ i li. ap f (ap₂ (cellNumber s) (let same : 0 + 1 * i ≡ i = omega arith in same)
+        (ap (λ (n : ℕ). (n + (s .p - 1) * i) % s .p) (let same : s .p - 1 + d - (s .p - 1) ≡ d = omega arith in same) ∙ rdp-back d i (column i) (on i li .0) (on i li .1))))
 
   -- ---- H-Code: both families start in the column after their parity column's next, r + 2
 

@@ -150,7 +150,7 @@ pub fn stripe_refusal(shape: Shape, bytes: usize) -> usize
 }
 
 // The column that is `step` columns on, from column p - 1 back to 0.
-fn turned(column: usize, step: usize, p: usize) -> usize
+pub fn turned(column: usize, step: usize, p: usize) -> usize
     requires { ⌜ (column < p) × (step ≤ p) × (p < 32) ⌝ }
     ensures { λ r. ⌜ r ≡ (column + step) % p ⌝ }
 {

@@ -1,18 +1,14 @@
 -- The equation by which a plan takes a row: as the code works it out, and that it holds the row's cell of the lost column.
-use mathlib.Core.Path.{_≡_, refl, sym, ap₂, _∙_, subst}
-use mathlib.Core.Logic.{_≢_}
+use mathlib.Core.Path.{_≡_, refl, sym, ap, _∙_}
 use mathlib.Core.Bool.{true, false}
-use Prim.Native.Nat.{ℕ, _+_, _-_, _*_, _%_, _^_, _≤_, _<_}
-use native.Mathlib.Nat.{mod-eq-of-lt}
+use Prim.Native.Nat.{ℕ, _+_, _%_, _<_}
+use native.Mathlib.Nat.{mod-eq-of-lt, add-mod-right}
 use native.Mathlib.Omega.{arith}
-use lib.Bits.{bitAnd}
-use Rattle.xor.proofs.Cases.{by-test}
+use Rattle.xor.proofs.Cases.{by-test, by-equal}
 use Rattle.solve.specs.Bit.{bit}
-use Rattle.solve.proofs.Masks.{bit-clear, bit-set}
 use Rattle.codes.specs.declared.Shape.{Shape}
 use Rattle.codes.specs.Shape.{rows, equations, cellNumber}
-use Rattle.codes.proofs.Residues.{wrapped}
-use Rattle.codes.proofs.Positions.{cell-inside, number-is, rdp-n}
+use Rattle.codes.proofs.Positions.{cell-inside, rdp-n}
 use Rattle.spare.specs.Plan.{diagonal, chosen}
 use Rattle.spare.specs.Right.{RdpColumn}
 use Rattle.spare.specs.Others.{Held, RowRight}
@@ -21,36 +17,20 @@ use Rattle.spare.proofs.Diagonals.{diagonal-last, diagonal-below}
 use Rattle.spare.proofs.Cells.{taken-low, own-held}
 
 module _ (s : Shape) (k plan i : ℕ) where
-  by-row : bit i plan ≡ false → chosen s k plan i ≡ i
+  pub by-row : bit i plan ≡ false → chosen s k plan i ≡ i
   unfolding chosen
   by-row p = rw p refl
 
-  by-diagonal : bit i plan ≡ true → chosen s k plan i ≡ rows s + diagonal s k i
+  pub by-diagonal : bit i plan ≡ true → chosen s k plan i ≡ rows s + diagonal s k i
   unfolding chosen
   by-diagonal p = rw p refl
 
-  -- ---- as the code works it out
-
-  module _ (of : RdpColumn s k) (row : i < rows s) (one : ℕ) (e : one ≡ 2 ^ i) where
-    pub code-row : bitAnd plan one ≡ 0 → i ≡ chosen s k plan i
-    code-row z = sym (by-row (bit-clear i plan one e z))
-
-    module _ (n : bitAnd plan one ≢ 0) where
-      code-diagonal : (d : ℕ) → diagonal s k i ≡ d → s .p - 1 + d ≡ chosen s k plan i
-      code-diagonal d same = ap₂ _+_ (last-row s k of) (sym same) ∙ sym (by-diagonal (bit-set i plan one e n))
-
-      pub code-last : k ≡ s .p → s .p - 1 + i ≡ chosen s k plan i
-      code-last same = code-diagonal i (diagonal-last s k i same)
-
-      -- the diagonal of a column below p
-      below : k ≢ s .p → (i + k) % s .p ≡ diagonal s k i
-      below other = sym (diagonal-below s k i (omega (arith, last-column s k of)))
-
-      pub code-before : k ≢ s .p → i + k < s .p → s .p - 1 + (i + k) ≡ chosen s k plan i
-      code-before other l = code-diagonal (i + k) (sym (below other) ∙ mod-eq-of-lt l)
-
-      pub code-past : k ≢ s .p → s .p ≤ i + k → s .p - 1 + (i + k - s .p) ≡ chosen s k plan i
-      code-past other l = code-diagonal (i + k - s .p) (sym (wrapped (s .p) (i + k) l (omega (arith, last-row s k of, last-column s k of)) ∙ below other))
+  -- the diagonal, as the code works it out: column p is no further on than column 0
+  pub diagonal-is : RdpColumn s k → i < rows s → (i + k) % s .p ≡ diagonal s k i
+  diagonal-is of li =
+      by-equal k (s .p)
+      (λ e. ap (λ (x : ℕ). (i + x) % s .p) e ∙ add-mod-right i (s .p) ∙ mod-eq-of-lt (omega (arith, last-row s k of)) ∙ sym (diagonal-last s k i e))
+      (λ n. sym (diagonal-below s k i (omega (arith, last-column s k of))))
 
   -- ---- the row's cell of the lost column is one of the equation's
 
@@ -71,8 +51,3 @@ module _ (s : Shape) (k plan i : ℕ) where
       cell = cell-inside s (of .formed) i k (right .row) (of .column);
       held = own-held s k plan of (right .accepted) i (right .row);
     }
-
-    -- as the code works out both numbers
-    pub code-held : (q own : ℕ) → q ≡ chosen s k plan i → own ≡ k * (s .p - 1) + i → Held s q own
-    code-held q own eq eo =
-        subst (λ (c : ℕ). Held s q c) (sym (eo ∙ number-is s (of .formed) i k (s .p - 1) (last-row s k of))) (subst (λ (r : ℕ). Held s r (cellNumber s i k)) (sym eq) chosen-held)

@@ -11,6 +11,8 @@ pub mod PlanFacts
 pub mod Planning
 pub mod Slots
 pub mod Choice
+pub mod Tables
+pub mod Windows
 pub mod Parts
 pub mod Budget
 pub mod SameReads

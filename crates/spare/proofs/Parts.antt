@@ -1,5 +1,5 @@
 -- Rows of the spare: what is set in a row's part of it, and one row after the other.
-use mathlib.Core.Path.{_≡_, refl, sym, ap, ap₂, _∙_, subst}
+use mathlib.Core.Path.{_≡_, refl, sym, ap, _∙_, subst}
 use mathlib.Core.Logic.{_≢_, inl, inr, ⊎-elim}
 use mathlib.Core.List.{List, _++_}
 use Prim.Native.Nat.{ℕ, _+_, _-_, _*_, _≤_, _<_}
@@ -10,38 +10,25 @@ use lib.Seq.{length-take-le, getD-take, getD-drop, getD-append-add}
 use borrow.Rule.Slice.PartMut.{midOf, postOf, putMid, mid-len, same-len-mid, post-is}
 use Rattle.xor.specs.Runs.{sumAt, Inside, Put}
 use Rattle.xor.proofs.Cases.{by-equal}
-use Rattle.xor.proofs.Runs.{first-long, first-inside, first-sum}
 use Rattle.codes.specs.declared.Shape.{Shape}
 use Rattle.codes.specs.Shape.{cellNumber, stripeLength, WellFormed}
 use Rattle.codes.specs.Encoded.{byteAt}
 use Rattle.codes.proofs.Places.{cells-apart}
 use Rattle.spare.specs.Plan.{chosen}
-use Rattle.spare.specs.Run.{others, rebuiltByte, RowsRebuilt}
+use Rattle.spare.specs.Run.{rebuiltByte, RowsRebuilt}
 use Rattle.spare.specs.Others.{OthersAt}
 
--- ---- the other cells of an equation, from places to bytes
+-- ---- the other cells of the chosen equation lie inside the stripe
 
-module _ (s : Shape) (q own n : ℕ) (places : List ℕ) (h : OthersAt s q own n places) where
-  few : n ≤ length places
-  few = omega (arith, h .few, h .long)
+pub others-inside : (s : Shape) (q own at bytes : ℕ) (places : List ℕ) → bytes ≡ stripeLength s → OthersAt s q own at places → Inside bytes places (at + s .cell)
+others-inside s q own at bytes places e h = subst (λ (n : ℕ). Inside n places (at + s .cell)) (sym e) (h .inside)
 
-  pub others-long : n ≡ length (take n places)
-  others-long = sym (first-long places n few)
+-- ---- the sum of the other cells of the chosen equation, set in the row's part, is the row rebuilt
 
-  pub others-inside : (long : ℕ) → long ≡ stripeLength s → Inside long (take n places) (0 + s .cell)
-  others-inside long e = first-inside places n few long (0 + s .cell) (λ k l. omega (arith, h .inside k l, e))
-
-  -- their XOR, set in the row's part, is the row rebuilt
-  pub row-put : (k plan i : ℕ) (stripe old new : List ℕ) → q ≡ chosen s k plan i → own ≡ cellNumber s i k
-      → Put old 0 (s .cell) (λ t. sumAt stripe (take n places) (0 + t)) new → Put old 0 (s .cell) (rebuiltByte s k plan stripe i) new
-  unfolding rebuiltByte
-  row-put k plan i stripe old new eq eo put = record {
-    long = put .long;
-    inner = λ t l.
-        put .inner t l ∙ ap (sumAt stripe (take n places)) (zero-add t) ∙ first-sum places n few stripe t ∙ h .sum stripe t
-        ∙ ap₂ (λ (x y : ℕ). others s x y (λ c. byteAt s stripe c t)) eq eo;
-    outer = put .outer;
-  }
+pub row-put : (s : Shape) (k plan i at : ℕ) (places stripe old new : List ℕ) → OthersAt s (chosen s k plan i) (cellNumber s i k) at places
+    → Put old 0 (s .cell) (λ t. sumAt stripe places (at + t)) new → Put old 0 (s .cell) (rebuiltByte s k plan stripe i) new
+unfolding rebuiltByte
+row-put s k plan i at places stripe old new h put = record { long = put .long; inner = λ t l. put .inner t l ∙ h .sum stripe t; outer = put .outer }
 
 -- ---- a part in the middle: what is set in it is set in the whole
 

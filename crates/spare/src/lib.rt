@@ -8,10 +8,10 @@ ghost use lib.ListN.{length};
 ghost use Rattle.xor.specs.Runs.{Put};
 ghost use Rattle.codes.specs.Shape.{rows, WellFormed};
 ghost use Rattle.codes.specs.Refusals.{refusal, shapeFaults};
-ghost use Rattle.spare.specs.Plan.{chosen, ByRule, isAccepted};
+ghost use Rattle.spare.specs.Plan.{ByRule, isAccepted};
 ghost use Rattle.spare.specs.Refusals.{notRdp, planFaults, spareFaults, runFaults, showFaults};
 ghost use Rattle.spare.specs.Right.{RdpColumn, RunRight};
-ghost use Rattle.spare.specs.Others.{Held, OthersAt, RowRight};
+ghost use Rattle.spare.specs.Others.{RowPlaces, ColumnPut, DiagonalPlaces, RowRight};
 ghost use Rattle.spare.specs.Run.{Plans, rebuiltByte, RowsRebuilt, RunsByPlan};
 ghost use Rattle.spare.specs.Show.{reason, Shown, Shows};
 use codes::Shape;
@@ -211,55 +211,82 @@ pub fn plan(shape: Shape, k: usize) -> PlanAnswer
     PlanAnswer::Plan(ReadPlan { rows, reads })
 }
 
-// The number of the equation by which a plan takes row i of column k: its row, or its diagonal, i + k less p where that is p or more.
-fn equation_for(shape: Shape, k: usize, plan: u64, i: usize) -> usize
-    requires { ⌜ RdpColumn shape k × (i < rows shape) ⌝ }
-    ensures { λ r. ⌜ r ≡ chosen shape k plan i ⌝ }
+// Fills in where the cells start from which a row of column k is rebuilt by its row, as if the row were row 0: those in row 0 of the
+// first p - 1 columns. The parity cell's place stands in for column k's.
+fn row_places(shape: Shape, k: usize, places: &mut [usize; 32])
+    requires { ⌜ RdpColumn shape k × (length (now places) ≡ 32) ⌝ }
+    ensures { λ _. ⌜ RowPlaces shape k (now (places .exit)) ⌝ }
+{
+    let n = shape.p - 1;
+    let step = n * shape.cell;
+    let mut j = 0;
+    while j < n {
+        places[j] = j * step;
+        j += 1;
+    }
+    if k < n {
+        places[k] = n * step;
+    }
+}
+
+// Fills in the two slots of column j: that for a diagonal which meets it in row d - j, and p slots later that for one which meets it in
+// row d + p - j. Diagonal d then has its cells, row after row, from slot p - 1 - d on.
+fn put_column(places: &mut [usize; 64], p: usize, j: usize, above: usize, below: usize)
+    requires { ⌜ (p < 32) × (j < p) × (length (now places) ≡ 64) ⌝ }
+    ensures { λ _. ⌜ ColumnPut p j above below (now (places .entry)) (now (places .exit)) ⌝ }
+{
+    let slot = p - 1 - j;
+    places[slot] = above;
+    places[slot + p] = below;
+}
+
+// Fills in where the cells start from which a row of column k is rebuilt by its diagonal, as if the diagonal were diagonal 0: those of
+// the first p columns. The parity cell's place stands in for column k's.
+fn diagonal_places(shape: Shape, k: usize, places: &mut [usize; 64])
+    requires { ⌜ RdpColumn shape k × (length (now places) ≡ 64) ⌝ }
+    ensures { λ _. ⌜ DiagonalPlaces shape k (now (places .exit)) ⌝ }
 {
     let p = shape.p;
-    if plan & solve::one_bit(i) == 0 {
-        return i;
-    }
     let n = p - 1;
-    if k == p {
-        return n + i;
+    let step = (n - 1) * shape.cell;
+    let turn = p * shape.cell;
+    let mut j = 0;
+    while j < p {
+        let at = j * step;
+        put_column(places, p, j, at, at + turn);
+        j += 1;
     }
-    let d = i + k;
-    if d < p { n + d } else { n + (d - p) }
+    if k < p {
+        let parity = n * turn;
+        put_column(places, p, k, parity, parity);
+    }
 }
 
-// Fills in where the cells of equation q other than cell `own` start, and answers how many they are.
-// The parity cell takes the place of a cell that the equation sums, so that one cell less than it holds is read.
-fn others_of(shape: Shape, q: usize, own: usize, places: &mut [usize; 32]) -> usize
-    requires { ⌜ Held shape q own × (length (now places) ≡ 32) ⌝ }
-    ensures { λ r. ⌜ OthersAt shape q own r (now (places .exit)) ⌝ }
-{
-    let from = codes::sources_of(shape, q, places);
-    let to = from.to;
-    let count = from.count;
-    let at = own * shape.cell;
-    if at == to {
-        return count;
-    }
-    let mut m = 0;
-    while places[m] != at {
-        m += 1;
-    }
-    places[m] = to;
-    count
-}
-
-// Rebuilds row i of column k into its part of the spare: the XOR of the other cells of the equation by which the plan takes it.
-fn rebuild_row(shape: Shape, stripe: &[u8], k: usize, plan: u64, i: usize, part: &mut [u8])
-    requires { ⌜ RowRight shape (length (now stripe)) k plan i × (length (now part) ≡ shape .cell) ⌝ }
+// Rebuilds row i of column k into its part of the spare: the XOR of the other cells of the equation by which the plan takes it. By its row
+// they start i cells past the places in `level`; by diagonal d, d cells past p - 1 places side by side in `slant`.
+fn rebuild_row(
+    shape: Shape,
+    stripe: &[u8],
+    level: &[usize],
+    slant: &[usize],
+    k: usize,
+    plan: u64,
+    i: usize,
+    part: &mut [u8],
+)
+    requires { ⌜ RowRight shape (length (now stripe)) k plan i × RowPlaces shape k (now level) × DiagonalPlaces shape k (now slant) × (length (now part) ≡ shape .cell) ⌝ }
     ensures { λ _. ⌜ Put (now (part .entry)) 0 (shape .cell) (rebuiltByte shape k plan (now (stripe .entry)) i) (now (part .exit)) ⌝ }
 {
-    let q = equation_for(shape, k, plan, i);
-    let own = k * (shape.p - 1) + i;
-    let mut places = [0usize; 32];
-    let count = others_of(shape, q, own, &mut places);
     let cell = shape.cell;
-    xor::put_sum_from(part, 0, stripe, &places[..count], 0, cell);
+    let n = shape.p - 1;
+    if plan & solve::one_bit(i) == 0 {
+        xor::put_sum_from(part, 0, stripe, &level[..n], i * cell, cell);
+        return;
+    }
+    let d = codes::turned(i, k, shape.p);
+    let from = n - d;
+    let to = from + n;
+    xor::put_sum_from(part, 0, stripe, &slant[from..to], d * cell, cell);
 }
 
 // Rebuilds n rows of the spare from the first on, each into its own part: no other byte of the spare changes.
@@ -275,13 +302,26 @@ fn run_rows(
     requires { ⌜ RunRight shape (length (now stripe)) (length (now spare)) k plan first × (first + n ≤ rows shape) ⌝ }
     ensures { λ _. ⌜ RowsRebuilt shape k plan first n (now (stripe .entry)) (now (spare .entry)) (now (spare .exit)) ⌝ }
 {
+    let mut level = [0usize; 32];
+    row_places(shape, k, &mut level);
+    let mut slant = [0usize; 64];
+    diagonal_places(shape, k, &mut slant);
     let cell = shape.cell;
     let end = first + n;
     let mut i = first;
     while i < end {
         let at = i * cell;
         let to = at + cell;
-        rebuild_row(shape, stripe, k, plan, i, &mut spare[at..to]);
+        rebuild_row(
+            shape,
+            stripe,
+            &level,
+            &slant,
+            k,
+            plan,
+            i,
+            &mut spare[at..to],
+        );
         i += 1;
     }
 }
