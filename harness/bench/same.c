@@ -945,11 +945,13 @@ static uint64_t run_refusal(struct zijraduf_shape shape, size_t bytes, size_t sp
  * place stands in for column k's. */
 static void row_places(struct zijraduf_shape shape, uint64_t k, uint64_t places[PLACES])
 {
-    uint64_t n = shape.p - 1, step = n * shape.cell;
-    for (uint64_t j = 0; j < n; j++)
-        places[j] = j * step;
+    uint64_t n = shape.p - 1, step = n * shape.cell, at = 0;
+    for (uint64_t j = 0; j < n; j++) {
+        places[j] = at;
+        at += step;
+    }
     if (k < n)
-        places[k] = n * step;
+        places[k] = at;
 }
 
 /* The two slots of column j: for a diagonal that meets it in row d - j, and for one that meets it in row d + p - j. */
@@ -963,9 +965,11 @@ static void put_column(uint64_t places[SLOTS], uint64_t p, uint64_t j, uint64_t 
 /* The same by its diagonal, as if the diagonal were diagonal 0. */
 static void diagonal_places(struct zijraduf_shape shape, uint64_t k, uint64_t places[SLOTS])
 {
-    uint64_t p = shape.p, n = p - 1, step = (n - 1) * shape.cell, turn = p * shape.cell;
-    for (uint64_t j = 0; j < p; j++)
-        put_column(places, p, j, j * step, j * step + turn);
+    uint64_t p = shape.p, n = p - 1, step = (n - 1) * shape.cell, turn = p * shape.cell, at = 0;
+    for (uint64_t j = 0; j < p; j++) {
+        put_column(places, p, j, at, at + turn);
+        at += step;
+    }
     if (k < p)
         put_column(places, p, k, n * turn, n * turn);
 }

@@ -3,7 +3,7 @@ use mathlib.Core.Path.{_≡_, sym, ap, _∙_}
 use mathlib.Core.Logic.{_≢_}
 use mathlib.Core.List.{List}
 use Prim.Native.Nat.{ℕ, _+_, _-_, _*_, _≤_, _<_}
-use native.Mathlib.Nat.{mul-le-mul, add-mul, mul-assoc, mul-comm}
+use native.Mathlib.Nat.{mul-le-mul, add-mul, zero-mul, one-mul, mul-assoc, mul-comm}
 use native.Mathlib.Omega.{arith}
 use lib.ListN.{length, getD, set, length-set}
 use lib.Seq.{getD-set-same, getD-set-other}
@@ -25,42 +25,50 @@ steps-small s w j n lj ln = mul-le-mul lj (step-small s w n ln)
 
 -- ---- how they are listed
 
--- the first j columns have their place
-pub record LevelFilled (step j : ℕ) (places : List ℕ) : Type 0 where
+-- one step more
+next-step : (at j step : ℕ) → at ≡ j * step → at + step ≡ (j + 1) * step
+next-step at j step e = omega (arith, e, add-mul j 1 step, one-mul step)
+
+-- the first j columns have their place, and the next column's is `at`
+pub record LevelFilled (step at j : ℕ) (places : List ℕ) : Type 0 where
   pub long : length places ≡ 32
-  pub at : (m : ℕ) → m < j → getD places m 0 ≡ m * step
+  pub next : at ≡ j * step
+  pub place : (m : ℕ) → m < j → getD places m 0 ≡ m * step
 
 module _ (step : ℕ) where
-  pub level-none : (places : List ℕ) → length places ≡ 32 → LevelFilled step 0 places
-  level-none places long = record { long = long; at = λ m l. absurd (omega arith) }
+  pub level-none : (places : List ℕ) → length places ≡ 32 → LevelFilled step 0 0 places
+  level-none places long = record { long = long; next = sym (zero-mul step); place = λ m l. absurd (omega arith) }
 
-  pub level-more : (j : ℕ) (places : List ℕ) → j < 32 → LevelFilled step j places → LevelFilled step (j + 1) (set places j (j * step))
-  level-more j places lj h = record {
-    long = length-set places j (j * step) ∙ h .long;
-    at = λ m l. by-equal m j
-        (λ e. ap (λ (x : ℕ). getD (set places j (j * step)) x 0) e ∙ getD-set-same places j (j * step) 0 (omega (arith, h .long)) ∙ ap (λ (x : ℕ). x * step) (sym e))
-        (λ n. getD-set-other places j m (j * step) 0 n ∙ h .at m (omega arith));
+  pub level-more : (at j : ℕ) (places : List ℕ) → j < 32 → LevelFilled step at j places → LevelFilled step (at + step) (j + 1) (set places j at)
+  level-more at j places lj h = record {
+    long = length-set places j at ∙ h .long;
+    next = next-step at j step (h .next);
+    place = λ m l. by-equal m j
+        (λ e. ap (λ (x : ℕ). getD (set places j at) x 0) e ∙ getD-set-same places j at 0 (omega (arith, h .long)) ∙ h .next ∙ ap (λ (x : ℕ). x * step) (sym e))
+        (λ n. getD-set-other places j m at 0 n ∙ h .place m (omega arith));
   }
 
--- the first j columns have their places
-pub record SlantFilled (p step turn j : ℕ) (places : List ℕ) : Type 0 where
+-- the first j columns have their places, and the next column's first is `at`
+pub record SlantFilled (p step turn at j : ℕ) (places : List ℕ) : Type 0 where
   pub long : length places ≡ 64
+  pub next : at ≡ j * step
   pub above : (m : ℕ) → m < j → getD places (p - 1 - m) 0 ≡ m * step
   pub below : (m : ℕ) → m < j → getD places (p - 1 - m + p) 0 ≡ m * step + turn
 
 module _ (p step turn : ℕ) where
-  pub slant-none : (places : List ℕ) → length places ≡ 64 → SlantFilled p step turn 0 places
-  slant-none places long = record { long = long; above = λ m l. absurd (omega arith); below = λ m l. absurd (omega arith) }
+  pub slant-none : (places : List ℕ) → length places ≡ 64 → SlantFilled p step turn 0 0 places
+  slant-none places long = record { long = long; next = sym (zero-mul step); above = λ m l. absurd (omega arith); below = λ m l. absurd (omega arith) }
 
-  pub slant-more : (j : ℕ) (places places′ : List ℕ) → j < p → SlantFilled p step turn j places → ColumnPut p j (j * step) (j * step + turn) places places′
-      → SlantFilled p step turn (j + 1) places′
-  slant-more j places places′ lj h put = record {
+  pub slant-more : (at j : ℕ) (places places′ : List ℕ) → j < p → SlantFilled p step turn at j places → ColumnPut p j at (at + turn) places places′
+      → SlantFilled p step turn (at + step) (j + 1) places′
+  slant-more at j places places′ lj h put = record {
     long = put .long ∙ h .long;
+    next = next-step at j step (h .next);
     above = λ m l. by-equal m j
-        (λ e. ap (λ (x : ℕ). getD places′ (p - 1 - x) 0) e ∙ put .first ∙ ap (λ (x : ℕ). x * step) (sym e))
+        (λ e. ap (λ (x : ℕ). getD places′ (p - 1 - x) 0) e ∙ put .first ∙ h .next ∙ ap (λ (x : ℕ). x * step) (sym e))
         (λ n. put .kept m (omega arith) n .0 ∙ h .above m (omega arith));
     below = λ m l. by-equal m j
-        (λ e. ap (λ (x : ℕ). getD places′ (p - 1 - x + p) 0) e ∙ put .second ∙ ap (λ (x : ℕ). x * step + turn) (sym e))
+        (λ e. ap (λ (x : ℕ). getD places′ (p - 1 - x + p) 0) e ∙ put .second ∙ ap (λ (x : ℕ). x + turn) (h .next ∙ ap (λ (x : ℕ). x * step) (sym e)))
         (λ n. put .kept m (omega arith) n .1 ∙ h .below m (omega arith));
   }
 
@@ -88,23 +96,23 @@ module _ (s : Shape) (k : ℕ) (of : RdpColumn s k) where
   columns-on : (j n : ℕ) → n ≡ rows s → j * (n * s .cell) ≡ j * rows s * s .cell
   columns-on j n e = sym (mul-assoc j n (s .cell)) ∙ ap (λ (x : ℕ). j * x * s .cell) e
 
-  module _ (j : ℕ) (places : List ℕ) (all : s .p - 1 ≤ j) (h : LevelFilled ((s .p - 1) * s .cell) j places) where
+  module _ (at j : ℕ) (places : List ℕ) (all : j ≡ s .p - 1) (h : LevelFilled ((s .p - 1) * s .cell) at j places) where
     -- the row parity column is lost, or no column that rows sum
     pub level-kept : s .p - 1 ≤ k → RowPlaces s k places
     level-kept lk = record {
       long = h .long;
-      other = λ m lm n. h .at m (omega (arith, rows-are)) ∙ columns-on m (s .p - 1) rows-are;
+      other = λ m lm n. h .place m (omega (arith, rows-are)) ∙ columns-on m (s .p - 1) rows-are;
       parity = λ l. absurd (omega (arith, rows-are));
     }
 
-    pub level-swapped : k < s .p - 1 → RowPlaces s k (set places k ((s .p - 1) * ((s .p - 1) * s .cell)))
+    pub level-swapped : k < s .p - 1 → RowPlaces s k (set places k at)
     level-swapped lk = record {
       long = length-set places k _ ∙ h .long;
-      other = λ m lm n. getD-set-other places k m _ 0 n ∙ h .at m (omega (arith, rows-are)) ∙ columns-on m (s .p - 1) rows-are;
-      parity = λ l. getD-set-same places k _ 0 (omega (arith, h .long, high s (of .formed))) ∙ columns-on (s .p - 1) (s .p - 1) rows-are ∙ ap (λ (x : ℕ). x * rows s * s .cell) rows-are;
+      other = λ m lm n. getD-set-other places k m _ 0 n ∙ h .place m (omega (arith, rows-are)) ∙ columns-on m (s .p - 1) rows-are;
+      parity = λ l. getD-set-same places k _ 0 (omega (arith, h .long, high s (of .formed))) ∙ h .next ∙ columns-on j (s .p - 1) rows-are ∙ ap (λ (x : ℕ). x * rows s * s .cell) (all ∙ rows-are);
     }
 
-  module _ (j : ℕ) (places : List ℕ) (all : s .p ≤ j) (h : SlantFilled (s .p) ((s .p - 1 - 1) * s .cell) (s .p * s .cell) j places) where
+  module _ (at j : ℕ) (places : List ℕ) (all : s .p ≤ j) (h : SlantFilled (s .p) ((s .p - 1 - 1) * s .cell) (s .p * s .cell) at j places) where
     above-is : (m : ℕ) → m * ((s .p - 1 - 1) * s .cell) ≡ m * (rows s - 1) * s .cell
     above-is m = sym (mul-assoc m (s .p - 1 - 1) (s .cell)) ∙ ap (λ (x : ℕ). m * (x - 1) * s .cell) rows-are
 

@@ -219,13 +219,15 @@ fn row_places(shape: Shape, k: usize, places: &mut [usize; 32])
 {
     let n = shape.p - 1;
     let step = n * shape.cell;
+    let mut at = 0;
     let mut j = 0;
     while j < n {
-        places[j] = j * step;
+        places[j] = at;
+        at += step;
         j += 1;
     }
     if k < n {
-        places[k] = n * step;
+        places[k] = at;
     }
 }
 
@@ -250,10 +252,11 @@ fn diagonal_places(shape: Shape, k: usize, places: &mut [usize; 64])
     let n = p - 1;
     let step = (n - 1) * shape.cell;
     let turn = p * shape.cell;
+    let mut at = 0;
     let mut j = 0;
     while j < p {
-        let at = j * step;
         put_column(places, p, j, at, at + turn);
+        at += step;
         j += 1;
     }
     if k < p {
