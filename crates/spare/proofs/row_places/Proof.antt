@@ -56,10 +56,10 @@ loop-again c =
     )
 
 mul-places-2 : tie.Need-mul-places-2 Inv-loop μ-loop
-mul-places-2 c = let start = c .before .before .before .before .before in omega (arith, high (start .args .shape) (start .pre .0 .formed), c .if1 .taken)
+mul-places-2 c = let start = c .before .before .before .before .before in omega (arith, high (start .args .shape) (start .pre .0 .formed), c .before .before .loop .inv .0, c .if1 .taken)
 
 element-write-places-2 : tie.Need-element-write-places-2 Inv-loop μ-loop
-element-write-places-2 c = let start = c .before .before .before .before .before in omega (arith, high (start .args .shape) (start .pre .0 .formed), c .if1 .taken)
+element-write-places-2 c = let start = c .before .before .before .before .before in omega (arith, high (start .args .shape) (start .pre .0 .formed), c .before .before .loop .inv .0, c .if1 .taken)
 
 returns : tie.Need-returns Inv-loop μ-loop
 returns c = level-swapped _ _ (c .before .before .before .before .before .pre .0) _ _ _ (omega (arith, c .before .before .loop .inv .0, c .before .loop-test .left)) (c .before .before .loop .inv .1) (c .if1 .taken)
