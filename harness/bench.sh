@@ -273,7 +273,7 @@ header() {
     echo "- Two columns: 0 and 1; of the other pairs none takes 3 % more instructions. One column: 0. Four cells: in four columns and four rows."
     echo "  Clean: no cell is lost, and the stripe is encoded. Bad column: the middle one, every byte of it bad."
     echo "- Run: all rows of the lost column 1 of RDP into a spare by the library's plan, made before; run-rows: by rows alone."
-    echo "  In C no other column takes 2 % more instructions."
+    echo "  No other column takes 1 % more instructions."
     echo "  Leaf: (p - 1)^2 times one cell XORed into another (the first of a row put), by the function with which the same algorithm in C does"
     echo "  it. Sums: the same cells, all of a row XORed at once. Of both where the cells lie is ready made."
     if [ -e "$peers/done" ]; then

@@ -292,7 +292,8 @@ fn rebuild_row(
     xor::put_sum_from(part, 0, stripe, &slant[from..to], d * cell, cell);
 }
 
-// Rebuilds n rows of the spare from the first on, each into its own part: no other byte of the spare changes.
+// Rebuilds n rows of the spare from the first on, each into its own part: no other byte of the spare changes. Where their cells start is
+// listed once, for all of them.
 fn run_rows(
     shape: Shape,
     stripe: &[u8],
