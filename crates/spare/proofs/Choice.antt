@@ -11,10 +11,11 @@ use Rattle.codes.specs.Shape.{rows, equations, cellNumber}
 use Rattle.codes.proofs.Positions.{cell-inside, rdp-n}
 use Rattle.spare.specs.Plan.{diagonal, chosen}
 use Rattle.spare.specs.Right.{RdpColumn}
-use Rattle.spare.specs.Others.{Held, RowRight}
+use Rattle.spare.specs.Places.{RowRight}
 use Rattle.spare.proofs.Column.{last-row, last-column}
 use Rattle.spare.proofs.Diagonals.{diagonal-last, diagonal-below}
 use Rattle.spare.proofs.Cells.{taken-low, own-held}
+use Rattle.spare.proofs.Slots.{Held}
 
 module _ (s : Shape) (k plan i : ℕ) where
   pub by-row : bit i plan ≡ false → chosen s k plan i ≡ i

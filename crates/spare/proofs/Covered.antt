@@ -22,10 +22,9 @@ use Rattle.codes.proofs.Solutions.{total-zero}
 use Rattle.spare.specs.Plan.{chosen}
 use Rattle.spare.specs.Right.{RunRight}
 use Rattle.spare.specs.Run.{rowsRun, rebuiltByte, AgreeOnReads}
-use Rattle.spare.specs.Others.{Held}
 use Rattle.spare.specs.Runs.{Turn, Ran, Runs, inTurn, covers, AgreeBeside}
 use Rattle.spare.proofs.Refused.{run-accepted}
-use Rattle.spare.proofs.Slots.{others-are}
+use Rattle.spare.proofs.Slots.{Held, others-are}
 use Rattle.spare.proofs.Choice.{chosen-held}
 use Rattle.spare.proofs.Column.{row-ends}
 use Rattle.spare.proofs.PlanFacts.{lost-not-read}

@@ -16,7 +16,7 @@ use Rattle.codes.specs.Encoded.{byteAt}
 use Rattle.codes.proofs.Places.{cells-apart}
 use Rattle.spare.specs.Plan.{chosen}
 use Rattle.spare.specs.Run.{rebuiltByte, RowsRebuilt}
-use Rattle.spare.specs.Others.{OthersAt}
+use Rattle.spare.proofs.Slots.{OthersAt}
 
 -- ---- the other cells of the chosen equation lie inside the stripe
 

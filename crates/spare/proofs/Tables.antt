@@ -12,7 +12,7 @@ use Rattle.codes.specs.declared.Shape.{Shape}
 use Rattle.codes.specs.Shape.{rows, WellFormed}
 use Rattle.codes.proofs.Shapes.{high}
 use Rattle.spare.specs.Right.{RdpColumn}
-use Rattle.spare.specs.Others.{RowPlaces, ColumnPut, DiagonalPlaces}
+use Rattle.spare.specs.Places.{RowPlaces, ColumnPut, DiagonalPlaces}
 use Rattle.spare.proofs.Column.{last-row}
 
 -- ---- what is small

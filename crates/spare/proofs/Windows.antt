@@ -22,12 +22,12 @@ use Rattle.codes.proofs.Residues.{wrapped}
 use Rattle.codes.proofs.Lines.{rdp-columns, rdp-row-sum, rdp-diagonal-sum}
 use Rattle.codes.proofs.Positions.{cell-inside, number-is, rdp-first, rdp-second}
 use Rattle.spare.specs.Plan.{diagonal, chosen}
-use Rattle.spare.specs.Others.{Held, RowPlaces, DiagonalPlaces, OthersAt, RowRight}
+use Rattle.spare.specs.Places.{RowPlaces, DiagonalPlaces, RowRight}
 use Rattle.spare.proofs.Column.{last-row, last-column}
 use Rattle.spare.proofs.Accepted.{every-row}
 use Rattle.spare.proofs.Cells.{taken-low}
 use Rattle.spare.proofs.Choice.{by-row, by-diagonal, diagonal-is, chosen-held}
-use Rattle.spare.proofs.Slots.{others-kept, others-swapped}
+use Rattle.spare.proofs.Slots.{Held, OthersAt, others-kept, others-swapped}
 
 -- a column of n cells less one for each of j columns
 less-one : (j n : ℕ) → 1 ≤ n → j * (n - 1) + j ≡ j * n

@@ -2,6 +2,6 @@ pub mod Plan
 pub mod Refusals
 pub mod Run
 pub mod Right
-pub mod Others
+pub mod Places
 pub mod Runs
 pub mod Show

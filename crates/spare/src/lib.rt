@@ -11,7 +11,7 @@ ghost use Rattle.codes.specs.Refusals.{refusal, shapeFaults};
 ghost use Rattle.spare.specs.Plan.{ByRule, isAccepted};
 ghost use Rattle.spare.specs.Refusals.{notRdp, planFaults, spareFaults, runFaults, showFaults};
 ghost use Rattle.spare.specs.Right.{RdpColumn, RunRight};
-ghost use Rattle.spare.specs.Others.{RowPlaces, ColumnPut, DiagonalPlaces, RowRight};
+ghost use Rattle.spare.specs.Places.{RowPlaces, ColumnPut, DiagonalPlaces, RowRight};
 ghost use Rattle.spare.specs.Run.{Plans, rebuiltByte, RowsRebuilt, RunsByPlan};
 ghost use Rattle.spare.specs.Show.{reason, Shown, Shows};
 use codes::Shape;

@@ -1,25 +1,14 @@
--- How the other cells of an equation are found, and a row that is to be rebuilt from them.
+-- Where the cells start from which rows are rebuilt, listed for all rows at once, and a row that is to be rebuilt.
 use mathlib.Core.Path.{_≡_}
 use mathlib.Core.Logic.{_≢_}
 use mathlib.Core.List.{List}
 use mathlib.Core.Bool.{true}
 use Prim.Native.Nat.{ℕ, _+_, _-_, _*_, _<_}
 use lib.ListN.{length, getD}
-use Rattle.xor.specs.Runs.{sumAt, Inside}
 use Rattle.codes.specs.declared.Shape.{Shape}
-use Rattle.codes.specs.Shape.{rows, cells, equations, stripeLength, WellFormed}
-use Rattle.codes.specs.Encoded.{byteAt}
-use Rattle.codes.specs.Holders.{holds}
+use Rattle.codes.specs.Shape.{rows, stripeLength}
 use Rattle.spare.specs.Plan.{isAccepted}
 use Rattle.spare.specs.Right.{RdpColumn}
-use Rattle.spare.specs.Run.{others}
-
--- a cell of the stripe that equation q holds
-pub record Held (s : Shape) (q own : ℕ) : Type 0 where
-  pub formed : WellFormed s
-  pub equation : q < equations s
-  pub cell : own < cells s
-  pub held : holds s q own ≡ true
 
 -- the places have, for each of the first p-1 columns, where its cell in row 0 starts; the row parity column's stands in for column k's
 pub record RowPlaces (s : Shape) (k : ℕ) (places : List ℕ) : Type 0 where
@@ -42,11 +31,6 @@ pub record DiagonalPlaces (s : Shape) (k : ℕ) (places : List ℕ) : Type 0 whe
   pub below : (j : ℕ) → j < s .p → j ≢ k → getD places (s .p - 1 - j + s .p) 0 ≡ (j * (rows s - 1) + s .p) * s .cell
   pub parity-above : k < s .p → getD places (s .p - 1 - k) 0 ≡ s .p * rows s * s .cell
   pub parity-below : k < s .p → getD places (s .p - 1 - k + s .p) 0 ≡ s .p * rows s * s .cell
-
--- of a stripe the bytes that are `at` past the places have as their sum the other cells of equation q than cell own
-pub record OthersAt (s : Shape) (q own at : ℕ) (places : List ℕ) : Type 0 where
-  pub inside : Inside (stripeLength s) places (at + s .cell)
-  pub sum : (stripe : List ℕ) (t : ℕ) → sumAt stripe places (at + t) ≡ others s q own (λ c. byteAt s stripe c t)
 
 -- row i of a lost column is to be rebuilt by an accepted plan from a stripe of so many bytes
 pub record RowRight (s : Shape) (bytes k plan i : ℕ) : Type 0 where
