@@ -13,6 +13,7 @@ uint64_t code, p, cell, rows, columns, equations;
 size_t length, data_bytes;
 uint64_t row, column, lost_cells[4], bad_column, lost_column, run_plan;
 uint8_t new_bytes[4096];
+static uint64_t first_row[31];
 
 void set_shape(uint64_t new_code, uint64_t new_p, uint64_t new_cell)
 {
@@ -31,6 +32,8 @@ void set_shape(uint64_t new_code, uint64_t new_p, uint64_t new_cell)
     static const uint64_t quarter[4] = {2, 0, 3, 1};
     for (uint64_t k = 0; k < 4; k++)
         lost_cells[k] = k * columns / 4 * rows + quarter[k] * rows / 4;
+    for (uint64_t k = 0; k < rows; k++)
+        first_row[k] = k * rows * cell;
 }
 
 void wrong(const char *whose, const char *what)
@@ -149,8 +152,8 @@ static void c_run(uint8_t *m) { run_call(same_run, run_plan, m); }
 static void c_run_rows(uint8_t *m) { run_call(same_run, 0, m); }
 
 /* The leaf alone, a cell at a time and a row at a time: what a run adds to it is to list the cells of its equations. */
-static void c_cells(uint8_t *m) { same_cells(shape, m, m + length); }
-static void c_sums(uint8_t *m) { same_sums(shape, m, m + length); }
+static void c_cells(uint8_t *m) { same_cells(shape, m, first_row, m + length); }
+static void c_sums(uint8_t *m) { same_sums(shape, m, first_row, m + length); }
 
 /* ---- functions of the peers, by name ---- */
 

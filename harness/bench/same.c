@@ -1002,22 +1002,20 @@ struct zijraduf_count same_run(struct zijraduf_shape shape, const uint8_t *strip
 }
 
 /* The row parity column into the spare, a cell after the other, with the places of row 0 for every row. */
-void same_cells(struct zijraduf_shape shape, const uint8_t *stripe, uint8_t *spare)
+void same_cells(struct zijraduf_shape shape, const uint8_t *stripe, const uint64_t *places, uint8_t *spare)
 {
-    uint64_t places[PLACES] = {0}, rows = row_count(shape);
-    uint64_t count = sources_of(shape, 0, places).count;
-    for (uint64_t i = 0; i < rows; i++) {
+    uint64_t n = shape.p - 1;
+    for (uint64_t i = 0; i < n; i++) {
         put_sum_from(spare, i * shape.cell, stripe, places, 1, i * shape.cell, shape.cell);
-        for (uint64_t k = 1; k < count; k++)
+        for (uint64_t k = 1; k < n; k++)
             add_sum(spare, i * shape.cell, stripe, &places[k], 1, i * shape.cell, shape.cell);
     }
 }
 
 /* The same, all cells of a row at once. */
-void same_sums(struct zijraduf_shape shape, const uint8_t *stripe, uint8_t *spare)
+void same_sums(struct zijraduf_shape shape, const uint8_t *stripe, const uint64_t *places, uint8_t *spare)
 {
-    uint64_t places[PLACES] = {0}, rows = row_count(shape);
-    uint64_t count = sources_of(shape, 0, places).count;
-    for (uint64_t i = 0; i < rows; i++)
-        put_sum_from(spare, i * shape.cell, stripe, places, count, i * shape.cell, shape.cell);
+    uint64_t n = shape.p - 1;
+    for (uint64_t i = 0; i < n; i++)
+        put_sum_from(spare, i * shape.cell, stripe, places, n, i * shape.cell, shape.cell);
 }

@@ -15,8 +15,9 @@ struct zijraduf_finding same_bad_column(struct zijraduf_shape shape, const uint8
 struct zijraduf_count same_run(struct zijraduf_shape shape, const uint8_t *stripe, size_t length, uint64_t k,
                                uint64_t plan, uint8_t *spare, size_t spare_length, uint64_t first, uint64_t budget);
 
-/* The sums alone that a whole run of an RDP stripe has to make: as many, of as many cells each. */
-void same_cells(struct zijraduf_shape shape, const uint8_t *stripe, uint8_t *spare);
-void same_sums(struct zijraduf_shape shape, const uint8_t *stripe, uint8_t *spare);
+/* The sums alone that a whole run of an RDP stripe has to make: as many, of as many cells each. Where the cells of row 0
+ * start is ready made. */
+void same_cells(struct zijraduf_shape shape, const uint8_t *stripe, const uint64_t *places, uint8_t *spare);
+void same_sums(struct zijraduf_shape shape, const uint8_t *stripe, const uint64_t *places, uint8_t *spare);
 
 #endif
