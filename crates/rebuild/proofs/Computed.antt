@@ -9,9 +9,9 @@ use borrow.Author.Tests.{eq-eqb, eqb-true, not-true, not-false}
 use Rattle.xor.specs.Sets.{any}
 use Rattle.xor.proofs.Cases.{by-test, clash}
 use Rattle.xor.proofs.Sets.{any-none, none-any}
-use Rattle.solve.specs.Method.{State, Outcome, passed, stopped, run}
-use Rattle.solve.specs.Verdict.{residue, rebuilt, Consistent}
-use Rattle.solve.proofs.Elimination.{passed-all, stopped-at}
+use Rattle.elimination.specs.Method.{State, Outcome, passed, stopped, run}
+use Rattle.elimination.specs.Verdict.{residue, rebuilt, Consistent}
+use Rattle.elimination.proofs.Elimination.{passed-all, stopped-at}
 use Rattle.codes.specs.declared.Shape.{Shape}
 use Rattle.codes.specs.Shape.{cells, equations, WellFormed}
 use Rattle.codes.specs.Encoded.{byteAt}

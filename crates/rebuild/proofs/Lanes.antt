@@ -15,7 +15,7 @@ use Rattle.xor.proofs.Cases.{by-test, by-equal, by-less, clash, not-passed}
 use Rattle.xor.proofs.Algebra.{⊕-zero, ⊕-assoc}
 use Rattle.xor.proofs.Sums.{xors-none, xors-more, xors-same}
 use Rattle.xor.proofs.Runs.{first-inside, first-sum, put-same, says-same}
-use Rattle.solve.specs.Bit.{bit}
+use Rattle.bits.specs.Bit.{bit, Members, Union}
 use Rattle.codes.specs.declared.Shape.{Shape}
 use Rattle.codes.specs.Shape.{cells, equations, stripeLength, WellFormed}
 use Rattle.codes.specs.Encoded.{byteAt, total}
@@ -23,8 +23,8 @@ use Rattle.codes.specs.Lines.{Holding}
 use Rattle.codes.proofs.Shapes.{small-equations}
 use Rattle.codes.proofs.Places.{cells-apart}
 use Rattle.codes.proofs.Solutions.{total-same}
-use Rattle.rebuild.specs.Solver.{summed, mended, Members, Sets}
-use Rattle.rebuild.specs.Lanes.{bytesAt, laneSum, Totals, Union, Passes, LanesOf, Filled}
+use Rattle.rebuild.specs.Solver.{summed, mended, Sets}
+use Rattle.rebuild.specs.Lanes.{bytesAt, laneSum, Totals, Passes, LanesOf, Filled}
 
 -- ---- the totals of equations
 

@@ -14,7 +14,7 @@ use Rattle.xor.specs.Runs.{Says}
 use Rattle.xor.proofs.Cases.{by-test, by-equal, by-less}
 use Rattle.xor.proofs.Algebra.{⊕-bits}
 use Rattle.xor.proofs.Sums.{xors-bits}
-use Rattle.solve.specs.Bit.{bit, IsLowest}
+use Rattle.bits.specs.Bit.{bit, IsLowest}
 use Rattle.codes.specs.declared.Shape.{Shape}
 use Rattle.codes.specs.Shape.{columns, cells, equations, stripeLength, WellFormed}
 use Rattle.codes.specs.Encoded.{parityCell, sumOver, byteAt, total}

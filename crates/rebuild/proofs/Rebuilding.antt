@@ -14,7 +14,7 @@ use Rattle.xor.proofs.Cases.{clash, not-passed}
 use Rattle.xor.proofs.Algebra.{⊕-zero}
 use Rattle.xor.proofs.Sums.{xors-zero}
 use Rattle.xor.proofs.Sets.{none-any}
-use Rattle.solve.specs.Bit.{IsLowest}
+use Rattle.bits.specs.Bit.{IsLowest}
 use Rattle.codes.specs.declared.Shape.{Shape}
 use Rattle.codes.specs.Shape.{cells, equations, stripeLength, WellFormed}
 use Rattle.codes.specs.Encoded.{parityCell, parityByte, byteAt, Encoded, fails}

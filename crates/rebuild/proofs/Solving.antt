@@ -14,13 +14,13 @@ use Rattle.xor.proofs.Cases.{by-test, by-less, clash, and-left, and-right, and-
 use Rattle.xor.proofs.Algebra.{⊕-zero}
 use Rattle.xor.proofs.Sums.{xors-zero, xors-one}
 use Rattle.solve.specs.declared.Eliminated.{Eliminated}
-use Rattle.solve.specs.Bit.{bit}
-use Rattle.solve.specs.Method.{State}
-use Rattle.solve.specs.Solution.{over, Solution}
-use Rattle.solve.specs.Verdict as verdict
+use Rattle.bits.specs.Bit.{bit, Members}
+use Rattle.elimination.specs.Method.{State}
+use Rattle.elimination.specs.Solution.{over, Solution}
+use Rattle.elimination.specs.Verdict as verdict
 use Rattle.solve.specs.Masked.{Lists, Problem, Masked, Eliminates}
-use Rattle.solve.proofs.Over.{over-values, over-tests}
-use Rattle.solve.proofs.Elimination.{passed-all, stopped-at, too-many}
+use Rattle.elimination.proofs.Over.{over-values, over-tests}
+use Rattle.elimination.proofs.Elimination.{passed-all, stopped-at, too-many}
 use Rattle.codes.specs.declared.Shape.{Shape}
 use Rattle.codes.specs.Shape.{cells, equations, WellFormed}
 use Rattle.codes.specs.Encoded.{total, Solves}
@@ -29,7 +29,7 @@ use Rattle.codes.proofs.Ordered.{ordered}
 use Rattle.codes.proofs.Shapes.{small-equations}
 use Rattle.codes.proofs.Solutions.{total-zero, zero-total, total-holds, solves-same}
 use Rattle.rebuild.specs.Survivors.{Undetermined}
-use Rattle.rebuild.specs.Solver.{summed, mended, lostIn, Listed, Members, Gathered, Rows, Solver, Decision}
+use Rattle.rebuild.specs.Solver.{summed, mended, lostIn, Listed, Gathered, Rows, Solver, Decision}
 use Rattle.rebuild.proofs.Stripes.{two-solutions}
 
 -- ---- solutions of a code's equations, as tests on cells

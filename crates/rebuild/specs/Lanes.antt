@@ -7,7 +7,7 @@ use Prim.Native.Nat.{ℕ, _+_, _*_, _≤_, _<_}
 use lib.Dec.{leb, ltb}
 use lib.ListN.{length, getD}
 use Rattle.xor.specs.Xor.{xors}
-use Rattle.solve.specs.Bit.{bit}
+use Rattle.bits.specs.Bit.{bit}
 use Rattle.codes.specs.declared.Shape.{Shape}
 use Rattle.codes.specs.Shape.{cells, stripeLength, WellFormed}
 use Rattle.codes.specs.Encoded.{byteAt, total, Encoded}
@@ -33,11 +33,6 @@ pub record Totals (s : Shape) (stripe : List ℕ) (set at n : ℕ) (lanes : List
 -- the XOR of byte i of the lanes in the set
 unfoldable pub laneSum : List ℕ → ℕ → ℕ → ℕ
 laneSum lanes set i = xors 64 (λ r. cond (bit r set) (getD lanes (r * 512 + i) 0) 0)
-
--- every member of the first n sets is in the union
-pub record Union (n : ℕ) (sets : List ℕ) (all : ℕ) : Type 0 where
-  pub within : (j : ℕ) → j < n → (r : ℕ) → bit r (getD sets j 0) ≡ true → bit r all ≡ true
-  pub made : (r : ℕ) → bit r all ≡ true → (j : ℕ) × (j < n) × (bit r (getD sets j 0) ≡ true)
 
 -- in byte t of the stripe the first n checks sum to zero
 pub record Passes (s : Shape) (stripe : List ℕ) (n : ℕ) (checks : List ℕ) (t : ℕ) : Type 0 where

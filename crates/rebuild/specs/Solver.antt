@@ -7,7 +7,7 @@ use lib.Dec.{eqb}
 use lib.ListN.{length, getD}
 use Rattle.xor.specs.Xor.{_⊕_, xors}
 use Rattle.xor.specs.Sets.{count}
-use Rattle.solve.specs.Bit.{bit}
+use Rattle.bits.specs.Bit.{bit}
 use Rattle.solve.specs.Masked.{Lists}
 use Rattle.codes.specs.declared.Shape.{Shape}
 use Rattle.codes.specs.Shape.{cells, equations}
@@ -38,14 +38,6 @@ pub record Listed (s : Shape) (map : List Bool) (u : ℕ) (lostCells : List ℕ)
 pub record Gathered (list sources : List ℕ) (n : ℕ) (sets : List ℕ) : Type 0 where
   pub long : length sets ≡ 64
   pub set : (k : ℕ) → k < n → getD sets k 0 ≡ getD sources (getD list k 0) 0
-
--- the list has the members of a set by rising number, each times `apart`
-pub record Members (set apart n : ℕ) (list : List ℕ) : Type 0 where
-  pub few : n ≤ 64
-  pub long : length list ≡ 64
-  pub member : (k : ℕ) → k < n → (r : ℕ) × (r < 64) × (bit r set ≡ true) × (getD list k 0 ≡ r * apart)
-  pub all : (r : ℕ) → r < 64 → bit r set ≡ true → (k : ℕ) × (k < n) × (getD list k 0 ≡ r * apart)
-  pub sum : (f : ℕ → ℕ) → xors n (λ k. f (getD list k 0)) ≡ xors 64 (λ r. cond (bit r set) (f (r * apart)) 0)
 
 -- the first n sets hold numbers of equations only
 pub record Sets (s : Shape) (n : ℕ) (sets : List ℕ) : Type 0 where

@@ -7,13 +7,13 @@ ghost use Prim.Native.Nat.{ℕ, _+_, _*_, _≤_, _<_};
 ghost use lib.ListN.{length, getD};
 ghost use Rattle.xor.specs.Xor.{_⊕_};
 ghost use Rattle.xor.specs.Runs.{Put, Says};
-ghost use Rattle.solve.specs.Bit.{bit, IsLowest};
+ghost use Rattle.bits.specs.Bit.{bit, IsLowest, Union};
 ghost use Rattle.codes.specs.Shape.{rows, columns, cells, equations, stripeLength, WellFormed};
 ghost use Rattle.codes.specs.Encoded.{total, fails};
 ghost use Rattle.rebuild.specs.Rebuild.{Decides, named, inColumns, RebuildsCells, RebuildsColumns};
 ghost use Rattle.rebuild.specs.Bad.{Replaceable, Finding, Finds};
-ghost use Rattle.rebuild.specs.Solver.{Sets, Rows, Decision, lostIn, Listed, Members, Gathered};
-ghost use Rattle.rebuild.specs.Lanes.{bytesAt, laneSum, InLane, Totals, Union, Passes, CellsIn, LanesOf, Filled, Mends, CleanOrNot};
+ghost use Rattle.rebuild.specs.Solver.{Sets, Rows, Decision, lostIn, Listed, Gathered};
+ghost use Rattle.rebuild.specs.Lanes.{bytesAt, laneSum, InLane, Totals, Passes, CellsIn, LanesOf, Filled, Mends, CleanOrNot};
 ghost use Rattle.rebuild.specs.Candidate.{TotalsOf, Without, Candidate};
 use codes::Shape;
 
@@ -95,7 +95,7 @@ fn hold_lost(shape: Shape, listed: &[usize; 64], lost: usize, rows: &mut [u64; 6
     while k < lost {
         let c = listed[k];
         let h = codes::holders_of(shape, c % height, c / height);
-        let one = solve::one_bit(k);
+        let one = bits::one_bit(k);
         let first = h.first;
         let second = h.second;
         rows[first] = rows[first] ^ one;
@@ -104,22 +104,6 @@ fn hold_lost(shape: Shape, listed: &[usize; 64], lost: usize, rows: &mut [u64; 6
         }
         k += 1;
     }
-}
-
-// Lists the members of a set by rising number, each times `apart`. Answers how many they are.
-fn list_members(set: u64, apart: usize, list: &mut [usize; 64]) -> usize
-    requires { ⌜ (length (now list) ≡ 64) × (apart ≤ 512) ⌝ }
-    ensures { λ r. ⌜ Members set apart r (now (list .exit)) ⌝ }
-{
-    let mut n = 0;
-    let mut rest = set;
-    while rest != 0 {
-        let r = solve::lowest_bit(rest) as usize;
-        list[n] = r * apart;
-        n += 1;
-        rest = rest & (rest - 1);
-    }
-    n
 }
 
 // For each of the first n numbers of a list the source that it names.
@@ -169,27 +153,13 @@ fn decide(
     }
     gather(&chosen, &sources, u, sets);
     let mut free = [0usize; 64];
-    let v = list_members(e.unused, 1, &mut free);
+    let v = bits::list_members(e.unused, 1, &mut free);
     gather(&free, &sources, v, checks);
     Decided {
         determined: true,
         lost: u,
         checks: v,
     }
-}
-
-// The union of the first n sets.
-fn union(sets: &[u64; 64], n: usize) -> u64
-    requires { ⌜ (length (now sets) ≡ 64) × (n ≤ 64) ⌝ }
-    ensures { λ r. ⌜ Union n (now (sets .entry)) r ⌝ }
-{
-    let mut all = 0u64;
-    let mut j = 0;
-    while j < n {
-        all = all | sets[j];
-        j += 1;
-    }
-    all
 }
 
 // Sets n bytes of the lane of equation q to its total, from byte `at` of each cell on.
@@ -208,7 +178,7 @@ fn put_totals(shape: Shape, stripe: &[u8], set: u64, at: usize, n: usize, lanes:
     ensures { λ _. ⌜ Totals shape (now (stripe .entry)) set at n (now (lanes .exit)) ⌝ }
 {
     let mut members = [0usize; 64];
-    let count = list_members(set, 1, &mut members);
+    let count = bits::list_members(set, 1, &mut members);
     let mut k = 0;
     while k < count {
         put_total(shape, stripe, members[k], at, n, lanes);
@@ -222,7 +192,7 @@ fn set_agrees(lanes: &[u8], set: u64, n: usize) -> bool
     ensures { λ r. ⌜ Says ((i : ℕ) → i < n → laneSum (now (lanes .entry)) set i ≡ 0) r ⌝ }
 {
     let mut places = [0usize; 64];
-    let count = list_members(set, 512, &mut places);
+    let count = bits::list_members(set, 512, &mut places);
     xor::sums_to_zero(lanes, &places[..count], n)
 }
 
@@ -278,7 +248,7 @@ fn survivors_agree(
     requires { ⌜ WellFormed shape × (length (now stripe) ≡ stripeLength shape) × Sets shape v (now checks) × (length (now lanes) ≡ 32768) ⌝ }
     ensures { λ r. ⌜ Says ((t : ℕ) → t < shape .cell → Passes shape (now (stripe .entry)) v (now (checks .entry)) t) r × (length (now (lanes .exit)) ≡ 32768) ⌝ }
 {
-    let set = union(checks, v);
+    let set = bits::union(checks, v);
     let cell = shape.cell;
     let mut at = 0;
     while at < cell {
@@ -297,7 +267,7 @@ fn add_lanes(stripe: &mut [u8], to: usize, lanes: &[u8], set: u64, n: usize)
     ensures { λ _. ⌜ Put (now (stripe .entry)) to n (λ i. getD (now (stripe .entry)) (to + i) 0 ⊕ laneSum (now (lanes .entry)) set i) (now (stripe .exit)) ⌝ }
 {
     let mut places = [0usize; 64];
-    let count = list_members(set, 512, &mut places);
+    let count = bits::list_members(set, 512, &mut places);
     xor::add_sum(stripe, to, lanes, &places[..count], 0, n);
 }
 
@@ -353,7 +323,7 @@ fn fill(
     requires { ⌜ WellFormed shape × (length (now stripe) ≡ stripeLength shape) × Sets shape lost (now sets) × CellsIn shape lost (now listed) × (length (now lanes) ≡ 32768) ⌝ }
     ensures { λ _. ⌜ Filled shape (now (listed .entry)) (now (sets .entry)) lost 0 (shape .cell) (now (stripe .entry)) (now (stripe .exit)) ⌝ }
 {
-    let set = union(sets, lost);
+    let set = bits::union(sets, lost);
     let cell = shape.cell;
     let mut at = 0;
     while at < cell {

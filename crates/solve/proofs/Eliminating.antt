@@ -9,12 +9,12 @@ use lib.ListN.{length, getD, set, length-set}
 use lib.Seq.{getD-set-same, getD-set-other}
 use borrow.Author.Tests.{ne-eqb, lt-ltb, not-true}
 use Rattle.xor.proofs.Cases.{by-equal, by-less, and-left, and-right, not-passed, clash}
-use Rattle.solve.specs.Bit.{bit, IsLowest}
-use Rattle.solve.specs.Method.{State, start, free, choose, passed, stopped, run}
+use Rattle.bits.specs.Bit.{bit, IsLowest}
+use Rattle.elimination.specs.Method.{State, start, free, choose, passed, stopped, run}
 use Rattle.solve.specs.Masked.{Sources, startsAt, Holding, Spread, Own, Lists, Problem, outcome, Masked, Eliminates}
-use Rattle.solve.proofs.Invariant.{chosen-here, chosen-before}
-use Rattle.solve.proofs.Run.{Passed, Reached, run-reached}
-use Rattle.solve.proofs.Steps.{run-starts, run-chooses, run-stops, run-skips, run-stays}
+use Rattle.elimination.proofs.Invariant.{chosen-here, chosen-before}
+use Rattle.elimination.proofs.Run.{Passed, Reached, run-reached}
+use Rattle.elimination.proofs.Steps.{run-starts, run-chooses, run-stops, run-skips, run-stays}
 use Rattle.solve.proofs.StateMasks.{sources-start, unused-start, free-lowest, free-none, bit-after, sources-next, unused-next}
 
 -- ---- the cells between two lost ones

@@ -1,5 +1,5 @@
 -- Laws of the method's state in masks: the start, and one choice.
-use mathlib.Core.Path.{_≡_, sym, ap, ap₂, _∙_}
+use mathlib.Core.Path.{_≡_, refl, sym, ap, ap₂, _∙_}
 use mathlib.Core.Bool.{Bool, true, false, not, _&&_, xor, and-true, and-false}
 use mathlib.Core.List.{List}
 use Prim.Native.Nat.{ℕ, _-_, _^_, _≤_, _<_}
@@ -9,13 +9,17 @@ use lib.Dec.{eqb, ltb}
 use lib.ListN.{getD}
 use borrow.Author.Tests.{eq-eqb, ne-eqb, lt-ltb, le-ltb}
 use Rattle.xor.proofs.Cases.{by-test, by-equal}
-use Rattle.solve.specs.Method.{State, start, free, joins, choose}
-use Rattle.solve.specs.Bit.{bit, IsLowest}
+use Rattle.elimination.specs.Method.{State, start, free, joins, choose}
+use Rattle.bits.specs.Bit.{bit, IsLowest}
 use Rattle.solve.specs.Masked.{Sources, Unused, firstCell, startsAt, addedWhere}
-use Rattle.solve.proofs.Lowest.{lowest-at, lowest-alike, lowest-within}
-use Rattle.solve.proofs.Tests.{added-within, neither-within}
-use Rattle.solve.proofs.Bits.{bit-power, bit-ones}
-use Rattle.solve.proofs.Masks.{bit-others, bit-added}
+use Rattle.bits.proofs.Lowest.{lowest-at, lowest-alike, lowest-within}
+use Rattle.bits.proofs.Tests.{add-nothing, added-within, neither-within}
+use Rattle.bits.proofs.Bits.{bit-xor, bit-power, bit-ones}
+use Rattle.bits.proofs.Masks.{bit-others}
+
+-- a mask added to another where a test passes
+pub bit-added : (k r test m more : ℕ) → bit k (addedWhere test r m more) ≡ xor (bit k m) (bit r test && bit k more)
+bit-added k r test m more = by-test (bit r test) (λ e. rw e (bit-xor k m more)) (λ e. rw e (sym (add-nothing (bit k m) true false refl)))
 
 -- ---- the start
 

@@ -11,11 +11,11 @@ use lib.ListN.{length, getD, set, length-set}
 use lib.Seq.{getD-set-same, getD-set-other}
 use borrow.Author.Tests.{eq-eqb, ne-eqb, lt-ltb, le-ltb}
 use Rattle.xor.proofs.Cases.{by-equal, by-less, and-left, and-both, clash}
-use Rattle.solve.specs.Bit.{bit, IsLowest}
+use Rattle.bits.specs.Bit.{bit, IsLowest}
 use Rattle.solve.specs.Masked.{firstCell, startsAt, Holding, addedWhere, Spread, Own}
-use Rattle.solve.proofs.Bits.{bit-zero, bit-xor, bit-power}
-use Rattle.solve.proofs.Tests.{add-nothing}
-use Rattle.solve.proofs.Masks.{bit-clear, bit-set, clear-lowest}
+use Rattle.bits.proofs.Bits.{bit-zero, bit-xor, bit-power}
+use Rattle.bits.proofs.Tests.{add-nothing}
+use Rattle.bits.proofs.Masks.{bit-clear, bit-set, clear-lowest}
 
 -- ---- the lowest member t taken out of rest
 module _ (rest t : ℕ) (l : t < 64) (found : IsLowest 64 (λ k. bit k rest) t) where

@@ -1,5 +1,1 @@
-pub mod Solution
-pub mod Method
-pub mod Verdict
-pub mod Bit
 pub mod Masked

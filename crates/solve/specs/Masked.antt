@@ -8,8 +8,8 @@ use lib.Bits.{bitXor}
 use lib.Dec.{eqb, ltb}
 use lib.ListN.{length, getD}
 use Rattle.solve.specs.declared.Eliminated.{Eliminated}
-use Rattle.solve.specs.Bit.{bit}
-use Rattle.solve.specs.Method.{lowest, State, Outcome, passed, stopped, run}
+use Rattle.bits.specs.Bit.{bit, lowest}
+use Rattle.elimination.specs.Method.{State, Outcome, passed, stopped, run}
 
 -- m is the set of the original equations that equation q is the sum of
 pub record Sources (E : ℕ) (s : State) (q m : ℕ) : Type 0 where

@@ -1,31 +1,14 @@
 // Elimination on at most 63 equations and 64 lost cells. Sets of either are the bits of a u64.
 ghost use mathlib.Core.Path.{_≡_};
-ghost use mathlib.Core.Logic.{_≢_};
-ghost use Prim.Native.Nat.{_^_, _≤_, _<_};
+ghost use Prim.Native.Nat.{_≤_, _<_};
 ghost use lib.ListN.{length};
-ghost use Rattle.solve.specs.Bit.{bit, IsLowest};
+ghost use Rattle.bits.specs.Bit.{IsLowest};
 ghost use Rattle.solve.specs.Masked.{firstCell, startsAt, Holding, Spread, Own, Eliminates};
 
 // What elimination answers: whether it found an equation for every lost cell, and the set of the equations that it didn't use.
 pub struct Eliminated {
     pub determined: bool,
     pub unused: u64,
-}
-
-// The lowest member of a set that is not empty.
-pub fn lowest_bit(mask: u64) -> u32
-    requires { ⌜ mask ≢ 0 ⌝ }
-    ensures { λ r. ⌜ (r < 64) × IsLowest 64 (λ k. bit k mask) r ⌝ }
-{
-    u64::trailing_zeros(mask)
-}
-
-// The set of q alone.
-pub fn one_bit(q: usize) -> u64
-    requires { ⌜ q < 64 ⌝ }
-    ensures { λ r. ⌜ r ≡ 2 ^ q ⌝ }
-{
-    1u64 << q
 }
 
 // An equation's first unsolved cell: the lowest of the lost cells that it holds; 64 where it holds none.
@@ -42,7 +25,7 @@ fn find_equation(rows: &[u64; 64], unused: u64, k: usize) -> usize
 {
     let mut rest = unused;
     while rest != 0 {
-        let q = lowest_bit(rest) as usize;
+        let q = bits::lowest_bit(rest) as usize;
         if first_cell(rows[q]) as usize == k {
             return q;
         }
@@ -56,12 +39,12 @@ fn holding(rows: &[u64; 64], equations: usize, k: usize) -> u64
     requires { ⌜ (length (now rows) ≡ 64) × (equations ≤ 64) × (k < 64) ⌝ }
     ensures { λ r. ⌜ Holding equations (now (rows .entry)) k r ⌝ }
 {
-    let cell = one_bit(k);
+    let cell = bits::one_bit(k);
     let mut members = 0;
     let mut q = 0;
     while q < equations {
         if rows[q] & cell != 0 {
-            members = members ^ one_bit(q);
+            members = members ^ bits::one_bit(q);
         }
         q += 1;
     }
@@ -76,7 +59,7 @@ fn spread(masks: &mut [u64; 64], others: u64, q: usize)
     let more = masks[q];
     let mut rest = others;
     while rest != 0 {
-        let r = lowest_bit(rest) as usize;
+        let r = bits::lowest_bit(rest) as usize;
         masks[r] = masks[r] ^ more;
         rest = rest & (rest - 1);
     }
@@ -89,7 +72,7 @@ fn own_sources(sources: &mut [u64; 64], equations: usize)
 {
     let mut q = 0;
     while q < equations {
-        sources[q] = one_bit(q);
+        sources[q] = bits::one_bit(q);
         q += 1;
     }
 }
@@ -107,7 +90,7 @@ pub fn eliminate(
     ensures { λ r. ⌜ Eliminates equations lost (now (rows .entry)) (now (sources .exit)) (now (chosen .exit)) r ⌝ }
 {
     own_sources(sources, equations);
-    let mut unused = one_bit(equations) - 1;
+    let mut unused = bits::one_bit(equations) - 1;
     let mut k = 0;
     while k < lost {
         let q = find_equation(rows, unused, k);
@@ -117,7 +100,7 @@ pub fn eliminate(
                 unused: unused,
             };
         }
-        let one = one_bit(q);
+        let one = bits::one_bit(q);
         let others = holding(rows, equations, k) ^ one;
         spread(rows, others, q);
         spread(sources, others, q);

@@ -8,9 +8,9 @@ use lib.Bits.{bitAnd}
 use lib.Dec.{eqb, leb, ltb}
 use borrow.Author.Tests.{eq-eqb, ne-eqb, eqb-true, le-leb, lt-leb, lt-ltb, le-ltb, ltb-true, not-true}
 use Rattle.xor.proofs.Cases.{by-equal, clash, and-left, and-right, and-both, either}
-use Rattle.solve.specs.Bit.{bit}
-use Rattle.solve.proofs.Bits.{bit-above, bit-ones}
-use Rattle.solve.proofs.Masks.{and-power}
+use Rattle.bits.specs.Bit.{bit}
+use Rattle.bits.proofs.Bits.{bit-above, bit-ones}
+use Rattle.bits.proofs.Masks.{and-power}
 use Rattle.codes.specs.declared.Shape.{Shape}
 use Rattle.codes.specs.Shape.{rows}
 use Rattle.codes.proofs.Shapes.{low}

@@ -8,8 +8,8 @@ use lib.Dec.{eqb, ltb}
 use borrow.Author.Tests.{lt-ltb, le-ltb, eq-eqb, ne-eqb, eqb-true, ltb-true, eqb-false, not-true}
 use Rattle.xor.proofs.Cases.{by-test, by-equal, clash, and-left, and-right, and-both, either, or-left, or-right, not-passed, same-test}
 use Rattle.xor.proofs.Sets.{any-at, any-some}
-use Rattle.solve.specs.Bit.{bit}
-use Rattle.solve.proofs.Bits.{bit-above}
+use Rattle.bits.specs.Bit.{bit}
+use Rattle.bits.proofs.Bits.{bit-above}
 use Rattle.codes.specs.declared.Shape.{Shape}
 use Rattle.codes.specs.Shape.{rows, columns, cellNumber, WellFormed}
 use Rattle.codes.specs.Equations.{Equation, equation, rdpRow, rdpDiagonal}

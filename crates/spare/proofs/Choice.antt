@@ -5,7 +5,7 @@ use Prim.Native.Nat.{ℕ, _+_, _%_, _<_}
 use native.Mathlib.Nat.{mod-eq-of-lt, add-mod-right}
 use native.Mathlib.Omega.{arith}
 use Rattle.xor.proofs.Cases.{by-test, by-equal}
-use Rattle.solve.specs.Bit.{bit}
+use Rattle.bits.specs.Bit.{bit}
 use Rattle.codes.specs.declared.Shape.{Shape}
 use Rattle.codes.specs.Shape.{rows, equations, cellNumber}
 use Rattle.codes.proofs.Positions.{cell-inside, rdp-n}

@@ -12,8 +12,8 @@ use borrow.Author.Tests.{lt-ltb, le-ltb, eq-eqb, ne-eqb, leb-true}
 use Rattle.xor.specs.Sets.{count}
 use Rattle.xor.proofs.Cases.{by-test, by-equal, by-less, and-left, and-right, and-both, or-left, or-right}
 use Rattle.xor.proofs.Sets.{count-same, count-lowest}
-use Rattle.solve.specs.Bit.{bit}
-use Rattle.solve.proofs.Bits.{bit-ones, same-bits, ones-bits}
+use Rattle.bits.specs.Bit.{bit}
+use Rattle.bits.proofs.Bits.{bit-ones, same-bits, ones-bits}
 use Rattle.codes.specs.declared.Shape.{Shape}
 use Rattle.codes.specs.Shape.{rows, cells, cellNumber, WellFormed}
 use Rattle.codes.proofs.Shapes.{each-prime, low, rows-low}

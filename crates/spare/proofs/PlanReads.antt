@@ -10,8 +10,8 @@ use borrow.Author.Tests.{lt-ltb, le-ltb, eq-eqb, ne-eqb}
 use Rattle.xor.specs.Sets.{count}
 use Rattle.xor.proofs.Cases.{by-test, by-equal}
 use Rattle.xor.proofs.Sets.{count-same, count-more, count-insert, count-never, count-all, count-not, count-round}
-use Rattle.solve.specs.Bit.{bit}
-use Rattle.solve.proofs.Bits.{bit-above, ones-bits}
+use Rattle.bits.specs.Bit.{bit}
+use Rattle.bits.proofs.Bits.{bit-above, ones-bits}
 use Rattle.codes.specs.declared.Shape.{Shape}
 use Rattle.codes.specs.Shape.{rows, columns, cells, cellNumber}
 use Rattle.codes.proofs.Shapes.{low}

@@ -3,7 +3,7 @@ use mathlib.Core.Path.{_≡_, refl, sym, ap, _∙_}
 use mathlib.Core.Logic.{_≢_}
 use Prim.Native.Nat.{ℕ, _-_, _*_}
 use lib.Count.{ones}
-use Rattle.solve.proofs.Bits.{same-bits}
+use Rattle.bits.proofs.Bits.{same-bits}
 use Rattle.codes.specs.declared.Shape.{Shape}
 use Rattle.codes.specs.Shape.{rows}
 use Rattle.codes.specs.Refusals.{refusal}

@@ -10,8 +10,8 @@ use borrow.Author.Tests.{eq-eqb, ne-eqb, lt-ltb, le-ltb}
 use Rattle.xor.specs.Sets.{count}
 use Rattle.xor.proofs.Cases.{by-equal, by-less}
 use Rattle.xor.proofs.Algebra.{⊕-is, ⊕-bits}
-use Rattle.solve.specs.Bit.{bit}
-use Rattle.solve.proofs.Bits.{bit-ones, bit-power, bit-xor}
+use Rattle.bits.specs.Bit.{bit}
+use Rattle.bits.proofs.Bits.{bit-ones, bit-power, bit-xor}
 use Rattle.codes.specs.declared.Shape.{Shape}
 use Rattle.codes.specs.Shape.{rows}
 use Rattle.codes.proofs.Shapes.{low}

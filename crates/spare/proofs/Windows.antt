@@ -13,7 +13,7 @@ use borrow.Author.Tests.{lt-ltb, le-ltb}
 use Rattle.xor.specs.Xor.{xors}
 use Rattle.xor.proofs.Cases.{by-equal, by-less, clash}
 use Rattle.xor.proofs.Runs.{part-long, part-byte}
-use Rattle.solve.specs.Bit.{bit}
+use Rattle.bits.specs.Bit.{bit}
 use Rattle.codes.specs.declared.Shape.{Shape}
 use Rattle.codes.specs.Shape.{rows, cells, cellNumber, WellFormed}
 use Rattle.codes.specs.Encoded.{parityCell, sumOver}

@@ -97,7 +97,7 @@ fn is_accepted(shape: Shape, k: usize, plan: u64) -> bool
     ensures { λ r. ⌜ r ≡ isAccepted shape k plan ⌝ }
 {
     let last = shape.p - 1;
-    let bound = solve::one_bit(last);
+    let bound = bits::one_bit(last);
     if bound <= plan {
         return false;
     }
@@ -107,7 +107,7 @@ fn is_accepted(shape: Shape, k: usize, plan: u64) -> bool
     if k == 0 {
         return true;
     }
-    plan & solve::one_bit(last - k) == 0
+    plan & bits::one_bit(last - k) == 0
 }
 
 // The refusal of a run for column k by a plan from a first row on: the lowest number that applies, or 0.
@@ -176,14 +176,14 @@ fn rule_rows(shape: Shape, k: usize) -> u64
 {
     let n = shape.p - 1;
     if n < k {
-        return solve::one_bit(n) - 1;
+        return bits::one_bit(n) - 1;
     }
     let half = n / 2;
     let left_out = n - k;
     if left_out < half {
-        return (solve::one_bit(half + 1) - 1) ^ solve::one_bit(left_out);
+        return (bits::one_bit(half + 1) - 1) ^ bits::one_bit(left_out);
     }
-    solve::one_bit(half) - 1
+    bits::one_bit(half) - 1
 }
 
 // How many distinct cells are read where the rows of a mask are taken by diagonal, and the others by row: of (p - 1)² cells each
@@ -282,7 +282,7 @@ fn rebuild_row(
 {
     let cell = shape.cell;
     let n = shape.p - 1;
-    if plan & solve::one_bit(i) == 0 {
+    if plan & bits::one_bit(i) == 0 {
         xor::put_sum_from(part, 0, stripe, &level[..n], i * cell, cell);
         return;
     }

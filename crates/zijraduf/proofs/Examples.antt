@@ -11,9 +11,9 @@ use Rattle.xor.specs.Xor.{_⊕_, xors}
 use Rattle.xor.specs.Sets.{any, count}
 use Rattle.xor.proofs.Cases.{by-less, clash, and-left, and-right}
 use Rattle.xor.proofs.Sets.{any-none, any-some}
-use Rattle.solve.specs.Bit.{bit}
-use Rattle.solve.specs.Solution.{syndrome}
-use Rattle.solve.specs.Method.{run, lowest}
+use Rattle.bits.specs.Bit.{bit, lowest}
+use Rattle.elimination.specs.Solution.{syndrome}
+use Rattle.elimination.specs.Method.{run}
 use Rattle.codes.specs.declared.Shape.{Shape}
 use Rattle.codes.specs.Shape.{listed, rows, columns, equations, cells, cellNumber, stripeLength, WellFormed}
 use Rattle.codes.specs.Equations.{equation}

@@ -1,9 +1,9 @@
 -- `solve::first_cell` meets its contract: the count of trailing zeros is the lowest set bit, or 64.
 use lib.Count.{trailingZeros}
-use Rattle.solve.specs.Bit.{bit}
+use Rattle.bits.specs.Bit.{bit}
 use Rattle.solve.specs.Masked.{firstCell}
-use Rattle.solve.proofs.Bits.{trailing-lowest}
-use Rattle.solve.proofs.Lowest.{lowest-is, lowest-one}
+use Rattle.bits.proofs.Bits.{trailing-lowest}
+use Rattle.bits.proofs.Lowest.{lowest-is, lowest-one}
 use Rattle.solve.proofs.first_cell.Statement.{statement}
 use Rattle.solve.proofs.first_cell.Tie as tie
 

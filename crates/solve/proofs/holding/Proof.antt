@@ -7,9 +7,6 @@ use Rattle.solve.specs.Masked.{Holding}
 use Rattle.solve.proofs.Turns.{holding-none, holding-less, holding-more, holding-all}
 use Rattle.solve.proofs.holding.Statement.{statement}
 use Rattle.solve.proofs.holding.Tie as tie
-use Rattle.solve.proofs.holding.Reads as reads
-use Rattle.solve.proofs.holding.Lts as lts
-use Rattle.solve.proofs.one_bit.Reads as one-bit-reads
 
 abbrev Inv-loop : tie.InvT-loop
 Inv-loop rows equations k cell members₀ q₀ members q = (q ≤ equations) × Holding q rows k members

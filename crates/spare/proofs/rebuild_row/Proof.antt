@@ -3,7 +3,7 @@ use Prim.Native.Nat.{_-_}
 use native.Mathlib.Omega.{arith}
 use borrow.Author.Needs.{needs}
 use Rattle.xor.proofs.Runs.{first-long}
-use Rattle.solve.proofs.Masks.{bit-clear, bit-set}
+use Rattle.bits.proofs.Masks.{bit-clear, bit-set}
 use Rattle.codes.proofs.Shapes.{low, high}
 use Rattle.spare.proofs.Column.{last-row, last-column, row-small}
 use Rattle.spare.proofs.Windows.{row-others, d-low, diagonal-others}

@@ -6,9 +6,10 @@ use native.Mathlib.Omega.{arith}
 use lib.Dec.{ltb}
 use borrow.Author.Tests.{ltb-true, ltb-false, not-true}
 use Rattle.xor.proofs.Cases.{by-test, by-equal, clash, and-left, and-right, and-both, not-passed}
-use Rattle.solve.specs.Method.{State, free, choose, Outcome, passed, stopped, turn, next, run, lowest}
-use Rattle.solve.proofs.Lowest.{lowest-is, lowest-none}
-use Rattle.solve.proofs.Invariant.{Invariant, start-keeps, choice-keeps, now-solved, still-solved, solved-before}
+use Rattle.elimination.specs.Method.{State, free, choose, Outcome, passed, stopped, turn, next, run}
+use Rattle.bits.specs.Bit.{lowest}
+use Rattle.bits.proofs.Lowest.{lowest-is, lowest-none}
+use Rattle.elimination.proofs.Invariant.{Invariant, start-keeps, choice-keeps, now-solved, still-solved, solved-before}
 
 -- no unused equation holds cell c
 pub record Closed (E : ℕ) (s : State) (c : ℕ) : Type 0 where

@@ -16,8 +16,8 @@ use Rattle.xor.specs.Sets.{count}
 use Rattle.xor.proofs.Cases.{by-equal}
 use Rattle.xor.proofs.Algebra.{digit}
 use Rattle.xor.proofs.Sets.{count-same, count-first}
-use Rattle.solve.specs.Bit.{bit, IsLowest}
-use Rattle.solve.proofs.Lowest.{lowest-here, lowest-above, lowest-alike}
+use Rattle.bits.specs.Bit.{bit, IsLowest}
+use Rattle.bits.proofs.Lowest.{lowest-here, lowest-above, lowest-alike}
 
 -- ---- the lowest bit, and the others
 

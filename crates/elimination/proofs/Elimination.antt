@@ -9,14 +9,14 @@ use lib.Dec.{eqb}
 use borrow.Author.Tests.{eq-eqb, ne-eqb}
 use Rattle.xor.proofs.Cases.{by-test, by-equal, clash, and-left, not-passed}
 use Rattle.xor.specs.Sets.{count}
-use Rattle.solve.specs.Solution.{Solution}
-use Rattle.solve.specs.Method.{State, Outcome, passed, stopped, run}
-use Rattle.solve.specs.Verdict.{rebuilt, Consistent, Determined, Undetermined, Verdict}
-use Rattle.solve.proofs.Over.{over-zero}
-use Rattle.solve.proofs.Invariant.{Invariant}
-use Rattle.solve.proofs.Run.{Closed, Passed, Stopped, Reached, run-reached}
-use Rattle.solve.proofs.Few.{passed-few}
-use Rattle.solve.proofs.Solved.{rebuilt-agrees, rebuilt-bits, residue-is, value-by-sums, zero-by-sums, lost-value, one-solution, solution-passes, rebuilt-solves}
+use Rattle.elimination.specs.Solution.{Solution}
+use Rattle.elimination.specs.Method.{State, Outcome, passed, stopped, run}
+use Rattle.elimination.specs.Verdict.{rebuilt, Consistent, Determined, Undetermined, Verdict}
+use Rattle.elimination.proofs.Over.{over-zero}
+use Rattle.elimination.proofs.Invariant.{Invariant}
+use Rattle.elimination.proofs.Run.{Closed, Passed, Stopped, Reached, run-reached}
+use Rattle.elimination.proofs.Few.{passed-few}
+use Rattle.elimination.proofs.Solved.{rebuilt-agrees, rebuilt-bits, residue-is, value-by-sums, zero-by-sums, lost-value, one-solution, solution-passes, rebuilt-solves}
 
 -- every cell is zero
 zero-solves : (E n : ℕ) (equation : ℕ → ℕ → Bool) → Solution E n equation (λ d. 0)

@@ -4,8 +4,8 @@ use mathlib.Core.Logic.{_≢_}
 use mathlib.Core.Bool.{Bool, true, false, cond}
 use Prim.Native.Nat.{ℕ, _<_}
 use Rattle.xor.specs.Xor.{_⊕_}
-use Rattle.solve.specs.Solution.{over, Solution, Agree, syndrome}
-use Rattle.solve.specs.Method.{State, Outcome, passed, stopped}
+use Rattle.elimination.specs.Solution.{over, Solution, Agree, syndrome}
+use Rattle.elimination.specs.Method.{State, Outcome, passed, stopped}
 
 -- the XOR of the syndromes of the original equations that equation q is the sum of
 abbrev pub residue : ℕ → ℕ → (ℕ → ℕ → Bool) → (ℕ → Bool) → State → (ℕ → ℕ) → ℕ → ℕ

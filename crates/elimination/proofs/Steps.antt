@@ -6,9 +6,9 @@ use native.Mathlib.Omega.{arith}
 use lib.Dec.{ltb}
 use borrow.Author.Tests.{lt-ltb, le-ltb}
 use Rattle.xor.proofs.Cases.{by-equal}
-use Rattle.solve.specs.Method.{State, start, free, choose, Outcome, passed, stopped, turn, next, run, lowest}
-use Rattle.solve.specs.Bit.{IsLowest}
-use Rattle.solve.proofs.Lowest.{lowest-is, lowest-one, none-lowest}
+use Rattle.elimination.specs.Method.{State, start, free, choose, Outcome, passed, stopped, turn, next, run}
+use Rattle.bits.specs.Bit.{lowest, IsLowest}
+use Rattle.bits.proofs.Lowest.{lowest-is, lowest-one, none-lowest}
 
 module _ (E : ℕ) (equation : ℕ → ℕ → Bool) (lost : ℕ → Bool) where
   pub run-starts : run E equation lost 0 ≡ passed (start equation)

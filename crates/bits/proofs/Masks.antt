@@ -10,10 +10,9 @@ use lib.Dec.{eqb, eqb·suc-suc}
 use lib.Pow.{pow-lt}
 use borrow.Author.Tests.{eq-eqb, ne-eqb, eqb-true, not-true, not-false}
 use Rattle.xor.proofs.Cases.{by-test, by-equal, clash}
-use Rattle.solve.specs.Bit.{bit, IsLowest}
-use Rattle.solve.specs.Masked.{addedWhere}
-use Rattle.solve.proofs.Bits.{bit-first, bit-next, bit-xor, bit-and, bit-zero, bit-power, no-bits}
-use Rattle.solve.proofs.Tests.{add-nothing, take-out}
+use Rattle.bits.specs.Bit.{bit, IsLowest}
+use Rattle.bits.proofs.Bits.{bit-first, bit-next, bit-xor, bit-and, bit-zero, bit-power, no-bits}
+use Rattle.bits.proofs.Tests.{take-out}
 
 -- ---- the test of one bit
 pub and-power : (q m : ℕ) → eqb (bitAnd m (2 ^ q)) 0 ≡ not (bit q m)
@@ -72,7 +71,3 @@ pub bit-others : (q r m : ℕ) → bit q m ≡ true → bit r (bitXor m (2 ^ q))
 bit-others q r m p =
     bit-xor r m (2 ^ q) ∙ ap (xor (bit r m)) (bit-power r q)
     ∙ take-out (bit r m) (eqb r q) (λ e. ap (λ (k : ℕ). bit k m) (eqb-true r q e) ∙ p)
-
--- a mask added to another where a test passes
-pub bit-added : (k r test m more : ℕ) → bit k (addedWhere test r m more) ≡ xor (bit k m) (bit r test && bit k more)
-bit-added k r test m more = by-test (bit r test) (λ e. rw e (bit-xor k m more)) (λ e. rw e (sym (add-nothing (bit k m) true false refl)))

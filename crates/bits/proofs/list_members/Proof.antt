@@ -1,13 +1,13 @@
--- `rebuild::list_members` meets its contract. The loop's invariant: the members that are not in `rest` are listed.
+-- `bits::list_members` meets its contract. The loop's invariant: the members that are not in `rest` are listed.
 use mathlib.Core.Path.{refl}
 use Prim.Native.Nat.{_-_}
 use lib.Bits.{and-le-r}
-use Rattle.rebuild.proofs.Lists.{MembersTo, members-none, members-room, members-more, members-all}
+use Rattle.bits.proofs.Members.{MembersTo, members-none, members-room, members-more, members-all}
 use native.Mathlib.Nat.{mul-le-mul, le-of-lt}
 use native.Mathlib.Omega.{arith}
 use borrow.Author.Needs.{needs}
-use Rattle.rebuild.proofs.list_members.Statement.{statement}
-use Rattle.rebuild.proofs.list_members.Tie as tie
+use Rattle.bits.proofs.list_members.Statement.{statement}
+use Rattle.bits.proofs.list_members.Tie as tie
 
 abbrev Inv-loop : tie.InvT-loop
 Inv-loop set apart list₀ n₀ rest₀ list n rest = MembersTo set apart n rest list

@@ -9,10 +9,10 @@ use Rattle.xor.specs.Xor.{_⊕_}
 use Rattle.xor.proofs.Cases.{by-equal, by-test, clash}
 use Rattle.xor.proofs.Algebra.{⊕-zero}
 use Rattle.xor.proofs.Sums.{nothing}
-use Rattle.solve.specs.Solution.{over, Solution}
-use Rattle.solve.specs.Method.{State, start, addTo, joins, choose}
-use Rattle.solve.proofs.Tests.{add-nothing, add-sweeps}
-use Rattle.solve.proofs.Over.{over-one, over-xor, over-part}
+use Rattle.elimination.specs.Solution.{over, Solution}
+use Rattle.elimination.specs.Method.{State, start, addTo, joins, choose}
+use Rattle.bits.proofs.Tests.{add-nothing, add-sweeps}
+use Rattle.elimination.proofs.Over.{over-one, over-xor, over-part}
 
 pub record Invariant (E n : ℕ) (equation : ℕ → ℕ → Bool) (s : State) : Type 0 where
   -- each equation is the sum of the original ones that `from` names

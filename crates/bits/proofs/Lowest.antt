@@ -6,8 +6,7 @@ use native.Mathlib.Omega.{arith}
 use lib.Dec.{eqb}
 use borrow.Author.Tests.{eq-eqb, ne-eqb}
 use Rattle.xor.proofs.Cases.{by-test, by-less, clash}
-use Rattle.solve.specs.Method.{lowest}
-use Rattle.solve.specs.Bit.{IsLowest}
+use Rattle.bits.specs.Bit.{lowest, IsLowest}
 
 -- one number more, below all the others: it passes, or the lowest of the others is one higher
 pub lowest-here : (n : ℕ) (test : ℕ → Bool) → test 0 ≡ true → IsLowest (suc n) test 0

@@ -8,7 +8,8 @@ use borrow.Author.Tests.{eq-eqb, ltb-true}
 use Rattle.xor.specs.Sets.{count}
 use Rattle.xor.proofs.Cases.{by-test}
 use Rattle.xor.proofs.Sets.{count-fails}
-use Rattle.solve.specs.Method.{State, free, joins, Outcome, passed, stopped, turn, next, run, lowest, stateOf}
+use Rattle.elimination.specs.Method.{State, free, joins, Outcome, passed, stopped, turn, next, run, stateOf}
+use Rattle.bits.specs.Bit.{lowest}
 
 turn-additions : (E : ℕ) (s : State) (c : ℕ) → stateOf (turn E s c) .additions ≤ s .additions + (E - 1)
 turn-additions E s c =

@@ -7,11 +7,11 @@ use borrow.Author.Tests.{eq-eqb, ne-eqb, not-true}
 use Rattle.xor.specs.Xor.{_⊕_}
 use Rattle.xor.proofs.Cases.{by-test, clash, and-left, and-right, and-both}
 use Rattle.xor.proofs.Algebra.{⊕-zero, ⊕-comm, ⊕-self, ⊕-cancel, ⊕-equal}
-use Rattle.solve.specs.Solution.{over, Solution, Agree, syndrome}
-use Rattle.solve.specs.Method.{State}
-use Rattle.solve.specs.Verdict.{residue, summed, rebuilt, Consistent}
-use Rattle.solve.proofs.Over.{over-values, over-zero, over-one, over-split, over-kept, over-bits}
-use Rattle.solve.proofs.Invariant.{Invariant}
+use Rattle.elimination.specs.Solution.{over, Solution, Agree, syndrome}
+use Rattle.elimination.specs.Method.{State}
+use Rattle.elimination.specs.Verdict.{residue, summed, rebuilt, Consistent}
+use Rattle.elimination.proofs.Over.{over-values, over-zero, over-one, over-split, over-kept, over-bits}
+use Rattle.elimination.proofs.Invariant.{Invariant}
 
 module _ (E n : ℕ) (equation : ℕ → ℕ → Bool) (lost : ℕ → Bool) (s : State) where
   -- residues depend on the survivors alone

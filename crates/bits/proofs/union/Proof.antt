@@ -1,11 +1,11 @@
--- `rebuild::union` meets its contract. The loop's invariant: `all` is the union of the first j sets.
+-- `bits::union` meets its contract. The loop's invariant: `all` is the union of the first j sets.
 use Prim.Native.Nat.{_-_, _≤_}
-use Rattle.rebuild.specs.Lanes.{Union}
-use Rattle.rebuild.proofs.Lists.{union-none, union-more, union-all}
+use Rattle.bits.specs.Bit.{Union}
+use Rattle.bits.proofs.Members.{union-none, union-more, union-all}
 use native.Mathlib.Omega.{arith}
 use borrow.Author.Needs.{needs}
-use Rattle.rebuild.proofs.union.Statement.{statement}
-use Rattle.rebuild.proofs.union.Tie as tie
+use Rattle.bits.proofs.union.Statement.{statement}
+use Rattle.bits.proofs.union.Tie as tie
 
 abbrev Inv-loop : tie.InvT-loop
 Inv-loop sets n all₀ j₀ all j = (j ≤ n) × Union j sets all

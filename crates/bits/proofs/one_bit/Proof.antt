@@ -1,11 +1,11 @@
--- `solve::one_bit` meets its contract: 1 shifted by less than 64 places loses nothing.
+-- `bits::one_bit` meets its contract: 1 shifted by less than 64 places loses nothing.
 use mathlib.Core.Path.{_∙_}
 use native.Mathlib.Nat.{one-mul}
 use native.Mathlib.Omega.{arith}
 use lib.Pow.{shl-exact}
 use borrow.Author.Needs.{needs}
-use Rattle.solve.proofs.one_bit.Statement.{statement}
-use Rattle.solve.proofs.one_bit.Tie as tie
+use Rattle.bits.proofs.one_bit.Statement.{statement}
+use Rattle.bits.proofs.one_bit.Tie as tie
 
 shl-result : tie.Need-shl-result
 shl-result c = search needs

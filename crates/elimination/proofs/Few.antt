@@ -8,8 +8,9 @@ use borrow.Author.Tests.{ltb-true, not-true}
 use Rattle.xor.specs.Sets.{count}
 use Rattle.xor.proofs.Cases.{by-test, and-left}
 use Rattle.xor.proofs.Sets.{count-insert, count-most, count-never}
-use Rattle.solve.specs.Method.{State, free, Outcome, passed, stopped, turn, next, run, lowest}
-use Rattle.solve.proofs.Lowest.{lowest-is}
+use Rattle.elimination.specs.Method.{State, free, Outcome, passed, stopped, turn, next, run}
+use Rattle.bits.specs.Bit.{lowest}
+use Rattle.bits.proofs.Lowest.{lowest-is}
 
 module _ (E : ℕ) (equation : ℕ → ℕ → Bool) (lost : ℕ → Bool) where
   -- where the method passed, n equations are used

@@ -4,11 +4,7 @@ use mathlib.Core.Bool.{Bool, false, cond, not, _&&_, _||_, xor}
 use Prim.Native.Nat.{ℕ, zero, suc, _+_}
 use lib.Dec.{eqb, ltb}
 use Rattle.xor.specs.Sets.{count}
-
--- the lowest number below n that passes the test; n where none does
-unfoldable pub lowest : ℕ → (ℕ → Bool) → ℕ
-lowest zero test = 0
-lowest (suc n) test = cond (test 0) 0 (suc (lowest n (λ k. test (suc k))))
+use Rattle.bits.specs.Bit.{lowest}
 
 -- what the method knows between two cells
 pub record State : Type 0 where

@@ -10,8 +10,8 @@ use Rattle.xor.specs.Xor.{_⊕_, xors}
 use Rattle.xor.proofs.Cases.{by-test, by-equal, clash}
 use Rattle.xor.proofs.Algebra.{zero-⊕, ⊕-zero, ⊕-self}
 use Rattle.xor.proofs.Sums.{xors-same, xors-zero, xors-one, xors-plus, xors-bits}
-use Rattle.solve.specs.Solution.{over}
-use Rattle.solve.proofs.Tests.{split-by}
+use Rattle.elimination.specs.Solution.{over}
+use Rattle.bits.proofs.Tests.{split-by}
 
 -- ---- sums of numbers
 

@@ -1,0 +1,3 @@
+pub mod Solution
+pub mod Method
+pub mod Verdict
