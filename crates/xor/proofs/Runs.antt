@@ -129,13 +129,13 @@ put-more s s′ to n x f l h e = record {
     less : (i : ℕ) → (i < to) ⊎ (to + (n + 1) ≤ i) → (i < to) ⊎ (to + n ≤ i)
     less i side = ⊎-elim (λ w. inl w) (λ w. inr (omega arith)) side
 
--- a run apart from the bytes stored has its old bytes
-sum-apart : (s s′ places : List ℕ) (to d n t : ℕ) (f : ℕ → ℕ) → Put s to d f s′ → Apart places to n → d ≤ n → t < n
-    → sumAt s′ places t ≡ sumAt s places t
+-- runs apart from the run at `to` have their old bytes when some of it are stored, from `at` on
+sum-apart : (s s′ places : List ℕ) (to at d n t : ℕ) (f : ℕ → ℕ) → Put s (to + at) d f s′ → Apart places to (at + n) → d ≤ n → t < n
+    → sumAt s′ places (at + t) ≡ sumAt s places (at + t)
 unfolding sumAt
-sum-apart s s′ places to d n t f h a ld lt =
-    xors-same (length places) (λ k. getD s′ (getD places k 0 + t) 0) (λ k. getD s (getD places k 0 + t) 0)
-    (λ k l. h .outer (getD places k 0 + t) (⊎-elim (λ w. inl (omega arith)) (λ w. inr (omega arith)) (a .side k l)))
+sum-apart s s′ places to at d n t f h a ld lt =
+    xors-same (length places) (λ k. getD s′ (getD places k 0 + (at + t)) 0) (λ k. getD s (getD places k 0 + (at + t)) 0)
+    (λ k l. h .outer (getD places k 0 + (at + t)) (⊎-elim (λ w. inl (omega arith)) (λ w. inr (omega arith)) (a .side k l)))
 
 -- bytes stored from `at` on, where the run was stored up to `done`
 pub put-over : (s₀ s s′ : List ℕ) (to at m done : ℕ) (f g : ℕ → ℕ) → Put s₀ to done f s → Put s (to + at) m g s′ → ((t : ℕ) → t < m → g t ≡ f (at + t))
@@ -153,12 +153,13 @@ put-over s₀ s s′ to at m done f g h b same lo hi = record {
         ap (λ (i : ℕ). getD s′ i 0) (sym place) ∙ b .inner (t - at) (omega arith) ∙ same (t - at) (omega arith) ∙ ap f whole
 
 -- a block of a sum: the runs are as they were
-pub put-block : (s₀ s s′ places : List ℕ) (to n at m done : ℕ)
-    → Put s₀ to done (sumAt s₀ places) s → Put s (to + at) m (λ t. sumAt s places (at + t)) s′
-    → Apart places to n → at ≤ done → done ≤ at + m → at + m ≤ n → Put s₀ to (at + m) (sumAt s₀ places) s′
-put-block s₀ s s′ places to n at m done h b a lo hi end =
-    put-over s₀ s s′ to at m done (sumAt s₀ places) (λ t. sumAt s places (at + t)) h b
-    (λ t l. sum-apart s₀ s places to done n (at + t) (sumAt s₀ places) h a (omega arith) (omega arith)) lo hi
+pub put-block : (s₀ s s′ places : List ℕ) (to at n next m done : ℕ)
+    → Put s₀ (to + at) done (λ t. sumAt s₀ places (at + t)) s → Put s (to + (at + next)) m (λ t. sumAt s places (at + next + t)) s′
+    → Apart places to (at + n) → next ≤ done → done ≤ next + m → next + m ≤ n → Put s₀ (to + at) (next + m) (λ t. sumAt s₀ places (at + t)) s′
+put-block s₀ s s′ places to at n next m done h b a lo hi end =
+    put-over s₀ s s′ (to + at) next m done (λ t. sumAt s₀ places (at + t)) (λ t. sumAt s places (at + next + t)) h
+    (subst (λ (k : ℕ). Put s k m (λ t. sumAt s places (at + next + t)) s′) (sym (add-assoc to at next)) b)
+    (λ t l. ap (sumAt s places) (add-assoc at next t) ∙ sum-apart s₀ s places to at done n (next + t) (λ i. sumAt s₀ places (at + i)) h a (omega arith) (omega arith)) lo hi
 
 -- a block of a sum of another list's runs
 pub put-from : (d₀ d d′ s places : List ℕ) (to at next m done : ℕ) → Put d₀ to done (λ t. sumAt s places (at + t)) d → Put d (to + next) m (λ t. sumAt s places (at + next + t)) d′
@@ -273,6 +274,10 @@ pub says-zero : (n : ℕ) (f g : ℕ → ℕ) (r : Bool) → ((t : ℕ) → t < 
 says-zero n f g r e =
     says-same ((t : ℕ) → t < n → f t ≡ 0) ((t : ℕ) → t < n → g t ≡ 0) r (λ z t l. sym (e t l) ∙ z t l) (λ z t l. e t l ∙ z t l)
 
+-- a block `next` bytes on from byte `at`
+pub zero-on : (f : ℕ → ℕ) (at next n : ℕ) (r : Bool) → Says ((t : ℕ) → t < n → f (at + next + t) ≡ 0) r → Says ((t : ℕ) → t < n → f (at + (next + t)) ≡ 0) r
+zero-on f at next n r = says-zero n (λ t. f (at + next + t)) (λ t. f (at + (next + t))) r (λ t l. ap f (add-assoc at next t))
+
 module _ (f : ℕ → ℕ) where
   -- f is zero below n, or for n numbers from `at` on
   abbrev pub Zero : ℕ → Type 0
@@ -319,3 +324,6 @@ module _ (f : ℕ → ℕ) where
 -- equal numbers are zero in the same places
 pub nonzero-same : (n r : ℕ) (f g : ℕ → ℕ) → ((t : ℕ) → t < n → f t ≡ g t) → NonzeroAt f n r → NonzeroAt g n r
 nonzero-same n r f g e h = record { most = h .most; some = λ l z. h .some l (e r l ∙ z); none = λ l t lt. sym (e t lt) ∙ h .none l t lt }
+
+pub nonzero-on : (f : ℕ → ℕ) (at next n r : ℕ) → NonzeroAt (λ t. f (at + next + t)) n r → NonzeroAt (λ t. f (at + (next + t))) n r
+nonzero-on f at next n r = nonzero-same n r (λ t. f (at + next + t)) (λ t. f (at + (next + t))) (λ t l. ap f (add-assoc at next t))

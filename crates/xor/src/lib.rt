@@ -92,20 +92,20 @@ fn put_block(s: &mut [u8], places: &[usize], to: usize, at: usize, n: usize)
     put_bytes(s, to + at, sum, n);
 }
 
-// Sets the run of n bytes at `to` to the XOR of the runs at the places, which it does not meet.
-pub fn put_sum(s: &mut [u8], places: &[usize], to: usize, n: usize)
-    requires { ⌜ Inside (length (now s)) (now places) n × Apart (now places) to n × (to + n ≤ length (now s)) ⌝ }
-    ensures { λ _. ⌜ Put (now (s .entry)) to n (sumAt (now (s .entry)) (now (places .entry))) (now (s .exit)) ⌝ }
+// Sets n bytes of the run at `to`, from `at` on, to the XOR of the runs at the places, which it does not meet.
+pub fn put_sum(s: &mut [u8], places: &[usize], to: usize, at: usize, n: usize)
+    requires { ⌜ Inside (length (now s)) (now places) (at + n) × Apart (now places) to (at + n) × (to + at + n ≤ length (now s)) ⌝ }
+    ensures { λ _. ⌜ Put (now (s .entry)) (to + at) n (λ t. sumAt (now (s .entry)) (now (places .entry)) (at + t)) (now (s .exit)) ⌝ }
 {
     if n < 128 {
-        put_block(s, places, to, 0, n);
+        put_block(s, places, to, at, n);
         return;
     }
     let mut done = 0;
     while done < n {
-        let at = block_at(done, n);
-        put_block(s, places, to, at, 128);
-        done = at + 128;
+        let next = block_at(done, n);
+        put_block(s, places, to, at + next, 128);
+        done = next + 128;
     }
 }
 
@@ -119,21 +119,21 @@ fn is_sum_block(s: &[u8], places: &[usize], to: usize, at: usize, n: usize) -> b
     all_zero(sum, n)
 }
 
-// Whether the run of n bytes at `to` is the XOR of the runs at the places. It stops at the first block that is not.
-pub fn is_sum(s: &[u8], places: &[usize], to: usize, n: usize) -> bool
-    requires { ⌜ Inside (length (now s)) (now places) n × (to + n ≤ length (now s)) ⌝ }
-    ensures { λ r. ⌜ Says ((t : ℕ) → t < n → withOwn (now (s .entry)) (now (places .entry)) to t ≡ 0) r ⌝ }
+// Whether n bytes of the run at `to`, from `at` on, are the XOR of the runs at the places. It stops at the first block that is not.
+pub fn is_sum(s: &[u8], places: &[usize], to: usize, at: usize, n: usize) -> bool
+    requires { ⌜ Inside (length (now s)) (now places) (at + n) × (to + at + n ≤ length (now s)) ⌝ }
+    ensures { λ r. ⌜ Says ((t : ℕ) → t < n → withOwn (now (s .entry)) (now (places .entry)) to (at + t) ≡ 0) r ⌝ }
 {
     if n < 128 {
-        return is_sum_block(s, places, to, 0, n);
+        return is_sum_block(s, places, to, at, n);
     }
     let mut done = 0;
     while done < n {
-        let at = block_at(done, n);
-        if !is_sum_block(s, places, to, at, 128) {
+        let next = block_at(done, n);
+        if !is_sum_block(s, places, to, at + next, 128) {
             return false;
         }
-        done = at + 128;
+        done = next + 128;
     }
     true
 }
@@ -233,20 +233,20 @@ fn nonzero_block(s: &[u8], places: &[usize], at: usize, n: usize) -> usize
     nonzero_byte(sum, n)
 }
 
-// The first byte below n in which the XOR of the runs at the places is not zero; n where there is none.
-pub fn nonzero_at(s: &[u8], places: &[usize], n: usize) -> usize
-    requires { ⌜ Inside (length (now s)) (now places) n ⌝ }
-    ensures { λ r. ⌜ NonzeroAt (sumAt (now (s .entry)) (now (places .entry))) n r ⌝ }
+// The first of n bytes of the XOR of the runs at the places, from `at` on, that is not zero, in blocks; n where all are.
+pub fn nonzero_at(s: &[u8], places: &[usize], at: usize, n: usize) -> usize
+    requires { ⌜ Inside (length (now s)) (now places) (at + n) × (at + n < 2 ^ 64) ⌝ }
+    ensures { λ r. ⌜ NonzeroAt (λ t. sumAt (now (s .entry)) (now (places .entry)) (at + t)) n r ⌝ }
 {
     let mut done = 0;
     while 128 <= n - done {
-        let i = nonzero_block(s, places, done, 128);
+        let i = nonzero_block(s, places, at + done, 128);
         if i < 128 {
             return done + i;
         }
         done += 128;
     }
-    done + nonzero_block(s, places, done, n - done)
+    done + nonzero_block(s, places, at + done, n - done)
 }
 
 // XORs into n bytes of d at `to` those from `at` on of the runs of s at the places.
