@@ -4,7 +4,7 @@ use mathlib.Core.Logic.{_≢_}
 use mathlib.Core.List.{List}
 use mathlib.Core.Bool.{true, false, cond}
 use Prim.Native.Nat.{ℕ, zero, suc, _+_, _≤_, _<_}
-use native.Mathlib.Nat.{le-refl}
+use native.Mathlib.Nat.{le-refl, zero-add}
 use native.Mathlib.Numerals.{add-one}
 use native.Mathlib.Omega.{arith}
 use lib.Dec.{eqb}
@@ -14,10 +14,11 @@ use Rattle.xor.proofs.Cases.{by-test, by-equal, by-less, clash}
 use Rattle.xor.proofs.Sets.{any-at, any-some}
 use Rattle.codes.specs.declared.Shape.{Shape}
 use Rattle.codes.specs.Shape.{cells, equations, stripeLength, WellFormed}
-use Rattle.codes.specs.Encoded.{parityCell, sumsCell, sumOver, Solves, byteAt, isParity, Encoded}
+use Rattle.codes.specs.Encoded.{parityCell, sumsCell, sumOver, parityByte, Solves, byteAt, isParity, Encoded}
 use Rattle.codes.proofs.Ordered.{ordered}
 use Rattle.codes.proofs.Parity.{sum-same, same-bytes}
-use Rattle.stripe.specs.Encode.{EncodingOf, ParitySet}
+use Rattle.equation.specs.Window.{ParitySet}
+use Rattle.stripe.specs.Encode.{EncodingOf}
 
 -- f after the parity cells of the first q equations are set, one after the other
 unfoldable pub settled : Shape → ℕ → (ℕ → ℕ) → ℕ → ℕ
@@ -59,29 +60,32 @@ module _ (s : Shape) (w : WellFormed s) (f : ℕ → ℕ) where
 -- new is old after the parity cells of the first q equations are set
 pub record Settled (s : Shape) (q : ℕ) (old new : List ℕ) : Type 0 where
   pub long : length new ≡ length old
-  pub same : (c t : ℕ) → t < s .cell → byteAt s new c t ≡ settled s q (λ d. byteAt s old d t) c
+  pub same : (c : ℕ) → c < cells s → (t : ℕ) → t < s .cell → byteAt s new c t ≡ settled s q (λ d. byteAt s old d t) c
 
 pub settled-none : (s : Shape) (old : List ℕ) → Settled s 0 old old
 unfolding settled
-settled-none s old = record { long = refl; same = λ c t l. refl }
+settled-none s old = record { long = refl; same = λ c lc t l. refl }
 
-pub settled-more : (s : Shape) (w : WellFormed s) (q : ℕ) (old mid new : List ℕ) → Settled s q old mid → ParitySet s q mid new → Settled s (q + 1) old new
-settled-more s w q old mid new h p = subst (λ (k : ℕ). Settled s k old new) (sym (add-one q)) (record {
+pub settled-more : (s : Shape) (w : WellFormed s) (q : ℕ) (old mid new : List ℕ) → q < equations s → Settled s q old mid → ParitySet s q 0 (s .cell) mid new → Settled s (q + 1) old new
+settled-more s w q old mid new lq h p = subst (λ (k : ℕ). Settled s k old new) (sym (add-one q)) (record {
   long = p .long ∙ h .long;
-  same = λ c t l. by-equal c (parityCell s q)
-      (λ e. ap (λ (k : ℕ). byteAt s new k t) e ∙ p .own t l ∙ sum-same s q (λ d. byteAt s mid d t) (settled s q (λ d. byteAt s old d t)) (λ d ld b. h .same d t l)
+  same = λ c lc t l. by-equal c (parityCell s q)
+      (λ e. ap (λ (k : ℕ). byteAt s new k t) e ∙ own t l ∙ sum-same s q (λ d. byteAt s mid d t) (settled s q (λ d. byteAt s old d t)) (λ d ld b. h .same d ld t l)
       ∙ sym (own-cell s w (λ d. byteAt s old d t) q) ∙ ap (settled s (suc q) (λ d. byteAt s old d t)) (sym e))
-      (λ n. p .others c n t l ∙ h .same c t l ∙ sym (other-cell s w (λ d. byteAt s old d t) q c n));
+      (λ n. p .others c lc t l (λ e. absurd (n e)) ∙ h .same c lc t l ∙ sym (other-cell s w (λ d. byteAt s old d t) q c n));
 })
+  where
+    own : (t : ℕ) → t < s .cell → byteAt s new (parityCell s q) t ≡ parityByte s mid q t
+    own t l = subst (λ (k : ℕ). byteAt s new (parityCell s q) k ≡ parityByte s mid q k) (zero-add t) (p .own t l)
 
 pub settled-all : (s : Shape) (w : WellFormed s) (q : ℕ) (old new : List ℕ) → Settled s q old new → q ≡ equations s → EncodingOf s old new
 settled-all s w q old new h e = record {
   long = h .long;
-  kept = λ c lc d t l. h .same c t l ∙ stays s w (λ k. byteAt s old k t) c d q (omega arith);
+  kept = λ c lc d t l. h .same c lc t l ∙ stays s w (λ k. byteAt s old k t) c d q (omega arith);
   encoded = record {
     holds = λ r lr t l.
-        h .same (parityCell s r) t l ∙ holds s w (λ k. byteAt s old k t) q (omega arith) r (omega arith)
-        ∙ sym (sum-same s r (λ c. byteAt s new c t) (settled s q (λ k. byteAt s old k t)) (λ c lc p. h .same c t l));
+        h .same (parityCell s r) (ordered s w .inside r lr) t l ∙ holds s w (λ k. byteAt s old k t) q (omega arith) r (omega arith)
+        ∙ sym (sum-same s r (λ c. byteAt s new c t) (settled s q (λ k. byteAt s old k t)) (λ c lc p. h .same c lc t l));
   };
 }
 

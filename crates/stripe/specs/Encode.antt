@@ -7,7 +7,7 @@ use Prim.Native.Nat.{ℕ, _<_}
 use lib.ListN.{length}
 use Rattle.codes.specs.declared.Shape.{Shape}
 use Rattle.codes.specs.Shape.{cells}
-use Rattle.codes.specs.Encoded.{byteAt, parityCell, parityByte, isParity, Encoded}
+use Rattle.codes.specs.Encoded.{byteAt, isParity, Encoded}
 use Rattle.codes.specs.Refusals.{refusal, stripeFaults}
 
 -- new is the encoded stripe with the data cells of old
@@ -21,9 +21,3 @@ pub record Encodes (s : Shape) (old : List ℕ) (answer : ℕ) (new : List ℕ) 
   pub number : answer ≡ refusal (stripeFaults s (length old))
   pub refused : answer ≢ 0 → new ≡ old
   pub done : answer ≡ 0 → EncodingOf s old new
-
--- new is old with the parity cell of equation q set to the XOR of the cells that the equation sums
-pub record ParitySet (s : Shape) (q : ℕ) (old new : List ℕ) : Type 0 where
-  pub long : length new ≡ length old
-  pub own : (t : ℕ) → t < s .cell → byteAt s new (parityCell s q) t ≡ parityByte s old q t
-  pub others : (c : ℕ) → c ≢ parityCell s q → (t : ℕ) → t < s .cell → byteAt s new c t ≡ byteAt s old c t

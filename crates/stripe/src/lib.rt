@@ -6,8 +6,8 @@ ghost use mathlib.Core.Bool.{cond};
 ghost use lib.Dec.{ltb};
 ghost use Rattle.codes.specs.Shape.{equations, cellNumber, stripeLength, WellFormed};
 ghost use Rattle.codes.specs.Depends.{WriteRight};
-ghost use Rattle.codes.specs.Encoded.{fails, brokenEquations};
-ghost use Rattle.stripe.specs.Encode.{EncodingOf, Encodes, ParitySet};
+ghost use Rattle.codes.specs.Encoded.{brokenEquations};
+ghost use Rattle.stripe.specs.Encode.{EncodingOf, Encodes};
 ghost use Rattle.stripe.specs.Broken.{Counts};
 ghost use Rattle.stripe.specs.Parts.{part, differs, Changed, FromCell};
 ghost use Rattle.stripe.specs.Write.{Written, Depending, Writes};
@@ -26,28 +26,16 @@ pub enum WriteCount {
     Refused(usize),
 }
 
-// Sets the parity cell of equation q to the XOR of the cells that the equation sums.
-fn set_parity(shape: Shape, stripe: &mut [u8], q: usize)
-    requires { ⌜ WellFormed shape × (length (now stripe) ≡ stripeLength shape) × (q < equations shape) ⌝ }
-    ensures { λ _. ⌜ ParitySet shape q (now (stripe .entry)) (now (stripe .exit)) ⌝ }
-{
-    let mut places = [0usize; 32];
-    let from = codes::sources_of(shape, q, &mut places);
-    let to = from.to;
-    let count = from.count;
-    let cell = shape.cell;
-    xor::put_sum(stripe, &places[..count], to, cell);
-}
-
 // Sets every parity cell, equation by equation: what a later equation sums has been set by then.
 fn set_parities(shape: Shape, stripe: &mut [u8])
     requires { ⌜ WellFormed shape × (length (now stripe) ≡ stripeLength shape) ⌝ }
     ensures { λ _. ⌜ EncodingOf shape (now (stripe .entry)) (now (stripe .exit)) ⌝ }
 {
+    let cell = shape.cell;
     let n = codes::equation_count(shape);
     let mut q = 0;
     while q < n {
-        set_parity(shape, stripe, q);
+        equation::set_parity(shape, stripe, q, 0, cell);
         q += 1;
     }
 }
@@ -64,29 +52,17 @@ pub fn encode(shape: Shape, stripe: &mut [u8]) -> usize
     0
 }
 
-// Whether equation q fails in at least one byte.
-pub fn equation_fails(shape: Shape, stripe: &[u8], q: usize) -> bool
-    requires { ⌜ WellFormed shape × (length (now stripe) ≡ stripeLength shape) × (q < equations shape) ⌝ }
-    ensures { λ r. ⌜ r ≡ fails shape (now (stripe .entry)) q ⌝ }
-{
-    let mut places = [0usize; 32];
-    let from = codes::sources_of(shape, q, &mut places);
-    let to = from.to;
-    let count = from.count;
-    let cell = shape.cell;
-    !xor::is_sum(stripe, &places[..count], to, cell)
-}
-
 // How many equations fail in at least one byte.
 fn count_broken(shape: Shape, stripe: &[u8]) -> usize
     requires { ⌜ WellFormed shape × (length (now stripe) ≡ stripeLength shape) ⌝ }
     ensures { λ r. ⌜ r ≡ brokenEquations shape (now (stripe .entry)) ⌝ }
 {
+    let cell = shape.cell;
     let equations = codes::equation_count(shape);
     let mut broken = 0;
     let mut q = 0;
     while q < equations {
-        if equation_fails(shape, stripe, q) {
+        if equation::fails(shape, stripe, q, 0, cell) {
             broken += 1;
         }
         q += 1;

@@ -1,5 +1,6 @@
 -- `stripe::count_broken` meets its contract. The loop's invariant: `broken` of the first q equations fail.
-use Rattle.stripe.proofs.Steps.{counted-all}
+use Rattle.equation.proofs.Windows.{whole, fails-whole}
+use Rattle.stripe.proofs.BrokenFacts.{counted-all}
 use Rattle.codes.proofs.Shapes.{small-equations}
 use mathlib.Core.Path.{_≡_, sym, _∙_}
 use mathlib.Core.Logic.{⊎-elim}
@@ -13,10 +14,10 @@ use Rattle.stripe.proofs.count_broken.Statement.{statement}
 use Rattle.stripe.proofs.count_broken.Tie as tie
 
 abbrev Inv-loop : tie.InvT-loop
-Inv-loop shape stripe equations broken₀ q₀ broken q = (q ≤ equations) × (broken ≡ count q (fails shape stripe))
+Inv-loop shape stripe cell equations broken₀ q₀ broken q = (q ≤ equations) × (broken ≡ count q (fails shape stripe))
 
 abbrev μ-loop : tie.MeasureT-loop
-μ-loop shape stripe equations broken₀ q₀ broken q = equations - q
+μ-loop shape stripe cell equations broken₀ q₀ broken q = equations - q
 
 equation-count-requires : tie.Need-equation-count-requires Inv-loop μ-loop
 equation-count-requires c κs = search needs
@@ -24,8 +25,10 @@ equation-count-requires c κs = search needs
 loop-holds : tie.Need-loop-holds Inv-loop μ-loop
 loop-holds c = (omega arith, sym (count-none _))
 
-equation-fails-requires : tie.Need-equation-fails-requires Inv-loop μ-loop
-equation-fails-requires c κs = search needs
+fails-requires : tie.Need-fails-requires Inv-loop μ-loop
+fails-requires c κs =
+    let start = c .before .before .before .before in
+    (whole _ _ (start .pre .0) (start .pre .1), omega (arith, c .before .before .equation-count .ensures))
 
 add-broken : tie.Need-add-broken Inv-loop μ-loop
 add-broken c = omega (arith, c .before .before .before .loop .inv .1, count-most (c .before .before .before .loop .q) (fails (c .before .before .before .before .before .before .args .shape) (c .before .before .before .before .before .before .args .stripe .now)), small-equations (c .before .before .before .before .before .before .args .shape) (c .before .before .before .before .before .before .pre .0), c .before .before .before .before .equation-count .ensures)
@@ -42,7 +45,8 @@ loop-again c =
     let turn = c .before .before .before .loop in
     let passed = count-in (turn .q) (turn .broken) (c .if1 .broken) (fails (start .args .shape) (start .args .stripe .now)) (turn .inv .1) in
     let not-passed = count-out (turn .q) (turn .broken) (c .if1 .broken) (fails (start .args .shape) (start .args .stripe .now)) (turn .inv .1) in
-    (omega arith, ⊎-elim (λ w. passed (sym (c .before .equation-fails .ensures) ∙ w .0 .taken) (w .1)) (λ w. not-passed (sym (c .before .equation-fails .ensures) ∙ w .0 .left) (w .1)) (c .if1 .came))
+    let is = c .before .fails .ensures ∙ fails-whole (start .args .shape) (start .args .stripe .now) (turn .q) in
+    (omega arith, ⊎-elim (λ w. passed (sym is ∙ w .0 .taken) (w .1)) (λ w. not-passed (sym is ∙ w .0 .left) (w .1)) (c .if1 .came))
 
 returns : tie.Need-returns Inv-loop μ-loop
 returns c = counted-all _ _ _ _ (c .before .loop .inv .1) (omega (arith, c .before .before .equation-count .ensures))
@@ -55,7 +59,7 @@ count-broken-spec =
     μ-loop
     equation-count-requires
     loop-holds
-    equation-fails-requires
+    fails-requires
     add-broken
     add-q
     loop-less

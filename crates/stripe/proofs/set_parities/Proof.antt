@@ -2,16 +2,17 @@
 use mathlib.Core.Path.{_∙_}
 use Prim.Native.Nat.{_-_, _≤_}
 use native.Mathlib.Omega.{arith}
+use Rattle.equation.proofs.Windows.{whole}
 use Rattle.stripe.proofs.Encoding.{Settled, settled-none, settled-more, settled-all}
 use borrow.Author.Needs.{needs}
 use Rattle.stripe.proofs.set_parities.Statement.{statement}
 use Rattle.stripe.proofs.set_parities.Tie as tie
 
 abbrev Inv-loop : tie.InvT-loop
-Inv-loop shape stripe₀ n q₀ stripe q = (q ≤ n) × Settled shape q stripe₀ stripe
+Inv-loop shape stripe₀ cell n q₀ stripe q = (q ≤ n) × Settled shape q stripe₀ stripe
 
 abbrev μ-loop : tie.MeasureT-loop
-μ-loop shape stripe₀ n q₀ stripe q = n - q
+μ-loop shape stripe₀ cell n q₀ stripe q = n - q
 
 equation-count-requires : tie.Need-equation-count-requires Inv-loop μ-loop
 equation-count-requires c κs = search needs
@@ -20,7 +21,9 @@ loop-holds : tie.Need-loop-holds Inv-loop μ-loop
 loop-holds c = (omega arith, settled-none _ _)
 
 set-parity-requires : tie.Need-set-parity-requires Inv-loop μ-loop
-set-parity-requires c κs = (c .before .before .before .before .before .pre .0, c .before .before .loop .inv .1 .long ∙ c .before .before .before .before .before .pre .1, omega (arith, c .before .before .before .equation-count .ensures))
+set-parity-requires c κs =
+    let start = c .before .before .before .before .before in
+    (whole _ _ (start .pre .0) (c .before .before .loop .inv .1 .long ∙ start .pre .1), omega (arith, c .before .before .before .equation-count .ensures))
 
 add-q : tie.Need-add-q Inv-loop μ-loop
 add-q c = search needs
@@ -29,7 +32,7 @@ loop-less : tie.Need-loop-less Inv-loop μ-loop
 loop-less c = omega arith
 
 loop-again : tie.Need-loop-again Inv-loop μ-loop
-loop-again c = (omega arith, settled-more _ (c .before .before .before .before .before .before .before .before .pre .0) _ _ _ _ (c .before .before .before .before .before .loop .inv .1) (c .before .before .set-parity .ensures))
+loop-again c = (omega arith, settled-more _ (c .before .before .before .before .before .before .before .before .pre .0) _ _ _ _ (omega (arith, c .before .before .before .before .before .before .equation-count .ensures)) (c .before .before .before .before .before .loop .inv .1) (c .before .before .set-parity .ensures))
 
 same-length : tie.Need-same-length Inv-loop μ-loop
 same-length c = c .before .loop .inv .1 .long

@@ -1,0 +1,41 @@
+-- `equation::fails` meets its contract. The equation fails where the run at its parity cell is not the XOR of the others.
+use mathlib.Core.Path.{sym, refl}
+use Rattle.equation.proofs.Windows.{used-long, used-inside, parity-ends, fails-used}
+use borrow.Author.Needs.{needs}
+use Rattle.equation.proofs.fails.Statement.{statement}
+use Rattle.equation.proofs.fails.Tie as tie
+
+sources-of-requires : tie.Need-sources-of-requires
+sources-of-requires c κs = (c .before .before .pre .0 .formed, c .before .before .pre .1, refl)
+
+array-share-prefix-places : tie.Need-array-share-prefix-places
+array-share-prefix-places c = search needs
+
+slice-aggregate-is-sum : tie.Need-slice-aggregate-is-sum
+slice-aggregate-is-sum c =
+    let start = c .before .before .before .before in
+    sym (used-long (start .args .shape) (start .args .stripe .now) (start .args .at) (start .args .n) (start .pre .0) (start .args .q) _ _ (c .before .sources-of .ensures))
+
+is-sum-requires : tie.Need-is-sum-requires
+is-sum-requires c κs =
+    let start = c .before .before .before .before in
+    let a = start .args in
+    let found = c .before .sources-of .ensures in
+    let w = start .pre .0 in
+    (used-inside (a .shape) (a .stripe .now) (a .at) (a .n) w (a .q) _ _ found, parity-ends (a .shape) (a .stripe .now) (a .at) (a .n) w (a .q) _ _ found)
+
+returns : tie.Need-returns
+returns c =
+    let start = c .before .before .before .before .before in
+    let a = start .args in
+    fails-used (a .shape) (a .stripe .now) (a .at) (a .n) (start .pre .0) (a .q) _ _ (c .before .before .sources-of .ensures) _ (c .is-sum .ensures)
+
+pub fails-spec : {M : Type 1} → statement M
+fails-spec =
+    tie.close
+    (tie.spec
+    sources-of-requires
+    array-share-prefix-places
+    slice-aggregate-is-sum
+    is-sum-requires
+    returns)

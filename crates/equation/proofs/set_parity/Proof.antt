@@ -1,0 +1,48 @@
+-- `equation::set_parity` meets its contract. The window of the parity cell becomes the XOR of those of the cells that the equation sums.
+use mathlib.Core.Path.{sym, refl}
+use Rattle.equation.proofs.Windows.{used-long, used-inside, used-apart, parity-ends, parity-set}
+use borrow.Author.Needs.{needs}
+use Rattle.equation.proofs.set_parity.Statement.{statement}
+use Rattle.equation.proofs.set_parity.Tie as tie
+
+sources-of-requires : tie.Need-sources-of-requires
+sources-of-requires c κs = (c .before .before .pre .0 .formed, c .before .before .pre .1, refl)
+
+array-share-prefix-places : tie.Need-array-share-prefix-places
+array-share-prefix-places c = search needs
+
+slice-aggregate-put-sum : tie.Need-slice-aggregate-put-sum
+slice-aggregate-put-sum c =
+    let start = c .before .before .before .before .before in
+    sym (used-long (start .args .shape) (start .args .stripe .now) (start .args .at) (start .args .n) (start .pre .0) (start .args .q) _ _ (c .before .before .sources-of .ensures))
+
+put-sum-requires : tie.Need-put-sum-requires
+put-sum-requires c κs =
+    let start = c .before .before .before .before .before in
+    let a = start .args in
+    let found = c .before .before .sources-of .ensures in
+    let w = start .pre .0 in (
+      used-inside (a .shape) (a .stripe .now) (a .at) (a .n) w (a .q) _ _ found,
+      used-apart (a .shape) (a .stripe .now) (a .at) (a .n) w (a .q) _ _ found,
+      parity-ends (a .shape) (a .stripe .now) (a .at) (a .n) w (a .q) _ _ found,
+    )
+
+same-length : tie.Need-same-length
+same-length c = search needs
+
+returns : tie.Need-returns
+returns c =
+    let start = c .before .before .before .before .before .before .before .before in
+    let a = start .args in
+    parity-set (a .shape) (a .stripe .now) (a .at) (a .n) (start .pre .0) (a .q) _ _ (c .before .before .before .before .before .sources-of .ensures) _ (c .before .before .put-sum .ensures)
+
+pub set-parity-spec : {M : Type 1} → statement M
+set-parity-spec =
+    tie.close
+    (tie.spec
+    sources-of-requires
+    array-share-prefix-places
+    slice-aggregate-put-sum
+    put-sum-requires
+    same-length
+    returns)
