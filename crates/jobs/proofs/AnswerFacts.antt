@@ -8,8 +8,8 @@ use Rattle.xor.proofs.Cases.{by-equal}
 use Rattle.codes.specs.declared.Shape.{Shape}
 use Rattle.codes.specs.Refusals.{refusal, cellsFaults}
 use Rattle.codes.proofs.Refused.{cells-accepted}
-use Rattle.rebuild.specs.Survivors.{Undetermined, Restores}
-use Rattle.rebuild.specs.Rebuild.{named, RebuildsCells}
+use Rattle.decide.specs.Survivors.{Undetermined, Restores, named}
+use Rattle.rebuild.specs.Rebuild.{RebuildsCells}
 use Rattle.rebuild.proofs.Calls.{decided-long}
 use Rattle.rebuild.proofs.Facts.{cells-come-back}
 use Rattle.jobs.specs.Format.{Job, jobBytes, Fits, shapeOf, answerBytes}

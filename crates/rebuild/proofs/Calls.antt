@@ -9,7 +9,8 @@ use Rattle.xor.proofs.Cases.{by-equal}
 use Rattle.codes.specs.declared.Shape.{Shape}
 use Rattle.codes.specs.Shape.{cells, stripeLength}
 use Rattle.codes.specs.Refusals.{refusal, columnsFaults}
-use Rattle.rebuild.specs.Rebuild.{Decides, Rebuilds, inColumns, RebuildsColumns}
+use Rattle.decide.specs.Survivors.{inColumns}
+use Rattle.rebuild.specs.Rebuild.{Decides, Rebuilds, RebuildsColumns}
 use Rattle.rebuild.proofs.Deciding.{zero-done, lost-same}
 use Rattle.rebuild.proofs.Never.{columns-never}
 

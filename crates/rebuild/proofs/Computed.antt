@@ -18,10 +18,10 @@ use Rattle.codes.specs.Encoded.{byteAt}
 use Rattle.codes.specs.Holders.{holds}
 use Rattle.codes.proofs.Parity.{same-bytes}
 use Rattle.stripe.proofs.Built.{built, built-at}
-use Rattle.rebuild.specs.Survivors.{Undetermined, Restores}
+use Rattle.decide.specs.Survivors.{Undetermined, Restores}
 use Rattle.rebuild.specs.Lanes.{bytesAt}
-use Rattle.rebuild.proofs.Stripes.{built-encoded}
-use Rattle.rebuild.proofs.Solving.{as-solution, as-solves, undetermined}
+use Rattle.decide.proofs.Stripes.{built-encoded}
+use Rattle.decide.proofs.Solving.{as-solution, as-solves, undetermined}
 
 -- what the elimination method comes to on a code's equations
 abbrev pub outcome : Shape → (ℕ → Bool) → Outcome

@@ -6,7 +6,7 @@ use Prim.Native.Nat.{ℕ, _<_}
 use native.Mathlib.Omega.{arith}
 use Rattle.codes.specs.declared.Shape.{Shape}
 use Rattle.codes.specs.Shape.{cells}
-use Rattle.rebuild.specs.Survivors.{Agree, Undetermined, Restores}
+use Rattle.decide.specs.Survivors.{Agree, Undetermined, Restores}
 use Rattle.rebuild.specs.Rebuild.{Decides}
 
 -- ---- survivors

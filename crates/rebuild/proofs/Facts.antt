@@ -18,10 +18,10 @@ use Rattle.codes.specs.Refusals.{refusal, cellsFaults, columnsFaults}
 use Rattle.codes.proofs.Refused.{cells-accepted, columns-accepted}
 use Rattle.codes.proofs.Ordered.{ordered}
 use Rattle.codes.proofs.Parity.{same-bytes}
-use Rattle.rebuild.specs.Survivors.{Agree, Undetermined, Restores}
-use Rattle.rebuild.specs.Rebuild.{Decides, named, RebuildsCells, inColumns, RebuildsColumns}
+use Rattle.decide.specs.Survivors.{Agree, Undetermined, Restores, named, inColumns}
+use Rattle.rebuild.specs.Rebuild.{Decides, RebuildsCells, RebuildsColumns}
 use Rattle.rebuild.specs.Lanes.{bytesAt}
-use Rattle.rebuild.proofs.Stripes.{two-solutions}
+use Rattle.decide.proofs.Stripes.{two-solutions}
 use Rattle.rebuild.proofs.OneAnswer.{restored-one}
 use Rattle.rebuild.proofs.Never.{columns-determined}
 

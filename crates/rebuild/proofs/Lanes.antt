@@ -23,7 +23,7 @@ use Rattle.codes.specs.Lines.{Holding}
 use Rattle.codes.proofs.Shapes.{small-equations}
 use Rattle.codes.proofs.Places.{cells-apart}
 use Rattle.codes.proofs.Solutions.{total-same}
-use Rattle.rebuild.specs.Solver.{summed, mended, Sets}
+use Rattle.decide.specs.Solver.{summed, mended, Sets}
 use Rattle.rebuild.specs.Lanes.{bytesAt, laneSum, Totals, Passes, LanesOf, Filled}
 
 -- ---- the totals of equations

@@ -1,7 +1,4 @@
 -- The laws behind the rebuild of lost cells and the search for a bad column.
-pub mod Lists
-pub mod Stripes
-pub mod Solving
 pub mod Lanes
 pub mod Rests
 pub mod Explained
@@ -14,5 +11,4 @@ pub mod Never
 pub mod Facts
 pub mod Naming
 pub mod Calls
-pub mod Marks
 pub mod Computed

@@ -8,8 +8,8 @@ use Rattle.xor.proofs.Cases.{by-equal}
 use Rattle.codes.specs.declared.Shape.{Shape}
 use Rattle.codes.specs.Refusals.{refusal, cellsFaults, columnsFaults}
 use Rattle.codes.proofs.Refused.{cells-accepted, columns-accepted}
-use Rattle.rebuild.specs.Survivors.{Agree}
-use Rattle.rebuild.specs.Rebuild.{Decides, Rebuilds, named, RebuildsCells, inColumns, RebuildsColumns}
+use Rattle.decide.specs.Survivors.{Agree, named, inColumns}
+use Rattle.rebuild.specs.Rebuild.{Decides, Rebuilds, RebuildsCells, RebuildsColumns}
 use Rattle.rebuild.proofs.OneAnswer.{rebuilds-alike}
 
 -- the two calls on stripes of the same length that differ in lost cells only

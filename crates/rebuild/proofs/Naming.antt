@@ -24,11 +24,10 @@ use Rattle.stripe.proofs.Built.{built, built-long, built-at, built-byte}
 use Rattle.codes.specs.Refusals.{refusal, stripeFaults}
 use Rattle.rebuild.specs.declared.BadColumn.{BadColumn}
 use Rattle.rebuild.specs.declared.BadColumn.the-variants.{Clean, Column, Unexplained, Refused}
-use Rattle.rebuild.specs.Survivors.{Undetermined, Restores}
-use Rattle.rebuild.specs.Rebuild.{inColumns}
+use Rattle.decide.specs.Survivors.{Undetermined, Restores, inColumns}
 use Rattle.rebuild.specs.Bad.{Replaceable, Finding, Finds}
 use Rattle.rebuild.specs.Candidate.{TotalsOf, Candidate}
-use Rattle.rebuild.specs.Solver.{summed, mended, Solver}
+use Rattle.decide.specs.Solver.{summed, mended, Solver}
 use Rattle.rebuild.specs.Lanes.{bytesAt, Passes, Filled}
 use Rattle.rebuild.proofs.OneBad.{one-explains, replaceable-explains, not-encoded}
 use Rattle.rebuild.proofs.Never.{columns-determined}

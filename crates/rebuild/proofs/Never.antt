@@ -14,8 +14,8 @@ use Rattle.codes.specs.Refusals.{Fault, order, applies, firstOf, refusal, shape
 use Rattle.codes.proofs.Refused.{columns-accepted}
 use Rattle.codes.proofs.Parity.{same-bytes}
 use Rattle.codes.proofs.TwoColumns.{two-columns-determined}
-use Rattle.rebuild.specs.Survivors.{Undetermined, Restores}
-use Rattle.rebuild.specs.Rebuild.{Rebuilds, inColumns, RebuildsColumns}
+use Rattle.decide.specs.Survivors.{Undetermined, Restores, inColumns}
+use Rattle.rebuild.specs.Rebuild.{Rebuilds, RebuildsColumns}
 use Rattle.rebuild.specs.Lanes.{bytesAt}
 
 -- encoded stripes that agree off two columns are equal

@@ -14,8 +14,8 @@ use Rattle.codes.proofs.Refused.{accepted, cells-accepted, columns-accepted}
 use Rattle.codes.proofs.Parity.{same-bytes}
 use Rattle.rebuild.specs.declared.BadColumn.{BadColumn}
 use Rattle.rebuild.specs.declared.BadColumn.the-variants.{Clean, Column, Unexplained, Refused}
-use Rattle.rebuild.specs.Survivors.{Agree, Undetermined, Restores}
-use Rattle.rebuild.specs.Rebuild.{Decides, Rebuilds, named, RebuildsCells, inColumns, RebuildsColumns}
+use Rattle.decide.specs.Survivors.{Agree, Undetermined, Restores, named, inColumns}
+use Rattle.rebuild.specs.Rebuild.{Decides, Rebuilds, RebuildsCells, RebuildsColumns}
 use Rattle.rebuild.specs.Bad.{badNumber, Finding, Finds}
 use Rattle.rebuild.proofs.OneBad.{one-bad-column}
 use Rattle.rebuild.proofs.Deciding.{agree-sym, agree-trans, restores-also, zero-done}

@@ -16,7 +16,7 @@ use Rattle.codes.specs.Lines.{Holding}
 use Rattle.codes.proofs.Solutions.{total-zero}
 use Rattle.codes.proofs.TwoColumns.{at-most-one-column}
 use Rattle.stripe.proofs.Steps.{held-sum, fails-is, not-failing}
-use Rattle.rebuild.specs.Rebuild.{inColumns}
+use Rattle.decide.specs.Survivors.{inColumns}
 use Rattle.rebuild.specs.Bad.{Replaceable}
 use Rattle.rebuild.specs.Lanes.{bytesAt}
 use Rattle.rebuild.specs.Candidate.{Explains}

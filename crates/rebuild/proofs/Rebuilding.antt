@@ -20,9 +20,9 @@ use Rattle.codes.specs.Shape.{cells, equations, stripeLength, WellFormed}
 use Rattle.codes.specs.Encoded.{parityCell, parityByte, byteAt, Encoded, fails}
 use Rattle.codes.proofs.Parity.{same-bytes}
 use Rattle.codes.proofs.Solutions.{solves-same}
-use Rattle.rebuild.specs.Survivors.{Undetermined, Restores}
+use Rattle.decide.specs.Survivors.{Undetermined, Restores}
 use Rattle.rebuild.specs.Rebuild.{Decides}
-use Rattle.rebuild.specs.Solver.{summed, mended, Solver}
+use Rattle.decide.specs.Solver.{summed, mended, Solver}
 use Rattle.rebuild.proofs.OneBad.{none-fails}
 use Rattle.rebuild.specs.Lanes.{bytesAt, Passes, Filled, Mends, CleanOrNot}
 

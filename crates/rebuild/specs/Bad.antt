@@ -9,8 +9,7 @@ use Rattle.codes.specs.Encoded.{Encoded}
 use Rattle.codes.specs.Refusals.{refusal, stripeFaults}
 use Rattle.rebuild.specs.declared.BadColumn.{BadColumn}
 use Rattle.rebuild.specs.declared.BadColumn.the-variants.{Clean, Column, Unexplained, Refused}
-use Rattle.rebuild.specs.Survivors.{Restores}
-use Rattle.rebuild.specs.Rebuild.{inColumns}
+use Rattle.decide.specs.Survivors.{Restores, inColumns}
 
 -- the replacement of column c alone makes the stripe encoded
 pub record Replaceable (s : Shape) (stripe : List ℕ) (c : ℕ) : Type 0 where

@@ -11,7 +11,7 @@ use Rattle.bits.specs.Bit.{bit}
 use Rattle.codes.specs.declared.Shape.{Shape}
 use Rattle.codes.specs.Shape.{cells, stripeLength, WellFormed}
 use Rattle.codes.specs.Encoded.{byteAt, total, Encoded}
-use Rattle.rebuild.specs.Solver.{summed, mended}
+use Rattle.decide.specs.Solver.{summed, mended}
 
 -- byte t of each cell
 abbrev pub bytesAt : Shape → List ℕ → ℕ → ℕ → ℕ

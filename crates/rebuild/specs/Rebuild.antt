@@ -2,15 +2,12 @@
 use mathlib.Core.Path.{_≡_}
 use mathlib.Core.Logic.{_≢_}
 use mathlib.Core.List.{List}
-use mathlib.Core.Bool.{Bool, _||_}
-use Prim.Native.Nat.{ℕ, _/_}
-use lib.Dec.{eqb}
-use lib.ListN.{length, getD}
-use Rattle.xor.specs.Sets.{any}
+use mathlib.Core.Bool.{Bool}
+use Prim.Native.Nat.{ℕ}
+use lib.ListN.{length}
 use Rattle.codes.specs.declared.Shape.{Shape}
-use Rattle.codes.specs.Shape.{rows}
 use Rattle.codes.specs.Refusals.{refusal, cellsFaults, columnsFaults}
-use Rattle.rebuild.specs.Survivors.{Undetermined, Restores}
+use Rattle.decide.specs.Survivors.{named, inColumns, Undetermined, Restores}
 
 -- the answer where the numbers are right: 11 exactly when the lost cells are undetermined; else 12 exactly when no encoded stripe agrees
 -- with the survivors; else 0, and new is the encoded stripe that agrees with them
@@ -26,17 +23,9 @@ pub record Rebuilds (s : Shape) (lost : ℕ → Bool) (wrong : ℕ) (old : List 
   pub decides : wrong ≡ 0 → Decides s lost old answer new
   pub kept : answer ≢ 0 → new ≡ old
 
--- whether a list names cell c
-unfoldable pub named : List ℕ → ℕ → Bool
-named numbers c = any (length numbers) (λ k. eqb (getD numbers k 0) c)
-
 -- rebuild of the cells that a list names
 abbrev pub RebuildsCells : Shape → List ℕ → List ℕ → ℕ → List ℕ → Type 0
 RebuildsCells s numbers old answer new = Rebuilds s (named numbers) (refusal (cellsFaults s (length old) numbers)) old answer new
-
--- whether cell c lies in column a or in column b
-unfoldable pub inColumns : Shape → ℕ → ℕ → ℕ → Bool
-inColumns s a b c = eqb (c / rows s) a || eqb (c / rows s) b
 
 -- rebuild of columns a and b: as of all cells in them, and never refused as undetermined
 pub record RebuildsColumns (s : Shape) (a b : ℕ) (old : List ℕ) (answer : ℕ) (new : List ℕ) : Type 0 where

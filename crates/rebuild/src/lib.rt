@@ -10,12 +10,13 @@ ghost use Rattle.xor.specs.Runs.{Put, Says};
 ghost use Rattle.bits.specs.Bit.{bit, IsLowest, Union};
 ghost use Rattle.codes.specs.Shape.{rows, columns, cells, equations, stripeLength, WellFormed};
 ghost use Rattle.codes.specs.Encoded.{total, fails};
-ghost use Rattle.rebuild.specs.Rebuild.{Decides, named, inColumns, RebuildsCells, RebuildsColumns};
+ghost use Rattle.decide.specs.Solver.{lostIn, Sets};
+ghost use Rattle.rebuild.specs.Rebuild.{Decides, RebuildsCells, RebuildsColumns};
 ghost use Rattle.rebuild.specs.Bad.{Replaceable, Finding, Finds};
-ghost use Rattle.rebuild.specs.Solver.{Sets, Rows, Decision, lostIn, Listed, Gathered};
 ghost use Rattle.rebuild.specs.Lanes.{bytesAt, laneSum, InLane, Totals, Passes, CellsIn, LanesOf, Filled, Mends, CleanOrNot};
 ghost use Rattle.rebuild.specs.Candidate.{TotalsOf, Without, Candidate};
 use codes::Shape;
+use decide::Decided;
 
 // What bad column answers: the stripe is encoded; the one column whose replacement makes it encoded; neither; or a refusal number.
 pub enum BadColumn {
@@ -23,143 +24,6 @@ pub enum BadColumn {
     Column(usize),
     Unexplained,
     Refused(usize),
-}
-
-// What was decided of a set of lost cells: whether the survivors determine them, how many there are, and how many checks the survivors have to pass.
-struct Decided {
-    determined: bool,
-    lost: usize,
-    checks: usize,
-}
-
-// The map of the cells that a list names.
-fn mark_cells(shape: Shape, lost: &[usize]) -> [bool; 961]
-    requires { ⌜ WellFormed shape × ((k : ℕ) → k < length (now lost) → getD (now lost) k 0 < cells shape) ⌝ }
-    ensures { λ r. ⌜ ((c : ℕ) → lostIn r c ≡ named (now (lost .entry)) c) ⌝ }
-{
-    let mut map = [false; 961];
-    let mut k = 0;
-    while k < lost.len() {
-        map[lost[k]] = true;
-        k += 1;
-    }
-    map
-}
-
-// The map of the cells in columns a and b.
-fn mark_columns(shape: Shape, a: usize, b: usize) -> [bool; 961]
-    requires { ⌜ WellFormed shape × (a < columns shape) × (b < columns shape) ⌝ }
-    ensures { λ r. ⌜ ((c : ℕ) → c < cells shape → lostIn r c ≡ inColumns shape a b c) ⌝ }
-{
-    let n = codes::row_count(shape);
-    let mut map = [false; 961];
-    let mut i = 0;
-    while i < n {
-        map[a * n + i] = true;
-        map[b * n + i] = true;
-        i += 1;
-    }
-    map
-}
-
-// Lists the lost cells by rising number. Answers how many there are, or one more than there are equations where there are more than these.
-fn list_lost(shape: Shape, map: [bool; 961], listed: &mut [usize; 64]) -> usize
-    requires { ⌜ WellFormed shape × (length (now listed) ≡ 64) ⌝ }
-    ensures { λ r. ⌜ Listed shape map r (now (listed .exit)) ⌝ }
-{
-    let n = codes::cell_count(shape);
-    let most = codes::equation_count(shape);
-    let mut u = 0;
-    let mut c = 0;
-    while c < n {
-        if map[c] {
-            if u == most {
-                return most + 1;
-            }
-            listed[u] = c;
-            u += 1;
-        }
-        c += 1;
-    }
-    u
-}
-
-// Fills in for each equation the set of the lost cells that it holds: bit k for lost cell number k.
-fn hold_lost(shape: Shape, listed: &[usize; 64], lost: usize, rows: &mut [u64; 64])
-    requires { ⌜ WellFormed shape × (lost ≤ 64) × ((k : ℕ) → k < lost → getD (now listed) k 0 < cells shape) × (length (now listed) ≡ 64) × (length (now rows) ≡ 64) × ((q : ℕ) → getD (now rows) q 0 ≡ 0) ⌝ }
-    ensures { λ _. ⌜ Rows shape lost (now (listed .entry)) (now (rows .exit)) ⌝ }
-{
-    let height = codes::row_count(shape);
-    let n = codes::equation_count(shape);
-    let mut k = 0;
-    while k < lost {
-        let c = listed[k];
-        let h = codes::holders_of(shape, c % height, c / height);
-        let one = bits::one_bit(k);
-        let first = h.first;
-        let second = h.second;
-        rows[first] = rows[first] ^ one;
-        if second < n {
-            rows[second] = rows[second] ^ one;
-        }
-        k += 1;
-    }
-}
-
-// For each of the first n numbers of a list the source that it names.
-fn gather(list: &[usize; 64], sources: &[u64; 64], n: usize, sets: &mut [u64; 64])
-    requires { ⌜ (n ≤ 64) × (length (now list) ≡ 64) × (length (now sources) ≡ 64) × (length (now sets) ≡ 64) × ((k : ℕ) → k < n → getD (now list) k 0 < 64) ⌝ }
-    ensures { λ _. ⌜ Gathered (now (list .entry)) (now (sources .entry)) n (now (sets .exit)) ⌝ }
-{
-    let mut k = 0;
-    while k < n {
-        sets[k] = sources[list[k]];
-        k += 1;
-    }
-}
-
-// Whether the survivors determine the lost cells. Where they do, what is lent holds the lost cells by rising number, for each the set of the
-// equations that gives it, and the sets that check the survivors.
-fn decide(
-    shape: Shape,
-    map: [bool; 961],
-    listed: &mut [usize; 64],
-    sets: &mut [u64; 64],
-    checks: &mut [u64; 64],
-) -> Decided
-    requires { ⌜ WellFormed shape × (length (now listed) ≡ 64) × (length (now sets) ≡ 64) × (length (now checks) ≡ 64) ⌝ }
-    ensures { λ r. ⌜ Decision shape (lostIn map) (now (listed .exit)) (now (sets .exit)) (now (checks .exit)) r ⌝ }
-{
-    let u = list_lost(shape, map, listed);
-    let n = codes::equation_count(shape);
-    if n < u {
-        return Decided {
-            determined: false,
-            lost: 0,
-            checks: 0,
-        };
-    }
-    let mut rows = [0u64; 64];
-    let mut sources = [0u64; 64];
-    let mut chosen = [0usize; 64];
-    hold_lost(shape, listed, u, &mut rows);
-    let e = solve::eliminate(&mut rows, &mut sources, &mut chosen, u, n);
-    if !e.determined {
-        return Decided {
-            determined: false,
-            lost: 0,
-            checks: 0,
-        };
-    }
-    gather(&chosen, &sources, u, sets);
-    let mut free = [0usize; 64];
-    let v = bits::list_members(e.unused, 1, &mut free);
-    gather(&free, &sources, v, checks);
-    Decided {
-        determined: true,
-        lost: u,
-        checks: v,
-    }
 }
 
 // Sets n bytes of the lane of equation q to its total, from byte `at` of each cell on.
@@ -390,14 +254,14 @@ fn rebuild_lost(shape: Shape, stripe: &mut [u8], map: [bool; 961]) -> usize
     let mut listed = [0usize; 64];
     let mut sets = [0u64; 64];
     let mut checks = [0u64; 64];
-    let d = decide(shape, map, &mut listed, &mut sets, &mut checks);
-    if !d.determined {
+    let d = decide::decide(shape, map, &mut listed, &mut sets, &mut checks);
+    let Decided::Solved { lost, checks: v } = d else {
         return 11;
-    }
-    if d.lost == 0 {
+    };
+    if lost == 0 {
         return clean_or_not(shape, stripe);
     }
-    mend(shape, stripe, &listed, &sets, d.lost, &checks, d.checks)
+    mend(shape, stripe, &listed, &sets, lost, &checks, v)
 }
 
 // Rebuild cells: the cells that the list names come back as the encoded stripe that agrees with all the others has them.
@@ -409,7 +273,7 @@ pub fn cells(shape: Shape, stripe: &mut [u8], lost: &[usize]) -> usize
     if refusal != 0 {
         return refusal;
     }
-    let map = mark_cells(shape, lost);
+    let map = decide::mark_cells(shape, lost);
     rebuild_lost(shape, stripe, map)
 }
 
@@ -422,7 +286,7 @@ pub fn columns(shape: Shape, stripe: &mut [u8], a: usize, b: usize) -> usize
     if refusal != 0 {
         return refusal;
     }
-    let map = mark_columns(shape, a, b);
+    let map = decide::mark_columns(shape, a, b);
     rebuild_lost(shape, stripe, map)
 }
 
@@ -517,16 +381,16 @@ fn column_agrees(shape: Shape, stripe: &[u8], column: usize) -> bool
     requires { ⌜ WellFormed shape × (length (now stripe) ≡ stripeLength shape) × (column < columns shape) ⌝ }
     ensures { λ r. ⌜ Says (Replaceable shape (now (stripe .entry)) column) r ⌝ }
 {
-    let map = mark_columns(shape, column, column);
+    let map = decide::mark_columns(shape, column, column);
     let mut listed = [0usize; 64];
     let mut sets = [0u64; 64];
     let mut checks = [0u64; 64];
-    let d = decide(shape, map, &mut listed, &mut sets, &mut checks);
-    if !d.determined {
+    let d = decide::decide(shape, map, &mut listed, &mut sets, &mut checks);
+    let Decided::Solved { lost: _, checks: v } = d else {
         return false;
-    }
+    };
     let mut lanes = [0u8; 32768];
-    survivors_agree(shape, stripe, &checks, d.checks, &mut lanes)
+    survivors_agree(shape, stripe, &checks, v, &mut lanes)
 }
 
 // The bad column of a stripe in which equation q fails. At the first byte in which it does at most one column can explain what fails,

@@ -11,9 +11,10 @@ use borrow.Author.Tests.{ne-eqb, lt-ltb, not-true}
 use Rattle.xor.proofs.Cases.{by-equal, by-less, and-left, and-right, not-passed, clash}
 use Rattle.bits.specs.Bit.{bit, IsLowest}
 use Rattle.elimination.specs.Method.{State, start, free, choose, passed, stopped, run}
+use Rattle.solve.specs.declared.Eliminated.the-variants.{Passed, Stopped}
 use Rattle.solve.specs.Masked.{Sources, startsAt, Holding, Spread, Own, Lists, Problem, outcome, Masked, Eliminates}
 use Rattle.elimination.proofs.Invariant.{chosen-here, chosen-before}
-use Rattle.elimination.proofs.Run.{Passed, Reached, run-reached}
+use Rattle.elimination.proofs.Run.{Passed as PassedTo, Reached, run-reached}
 use Rattle.elimination.proofs.Steps.{run-starts, run-chooses, run-stops, run-skips, run-stays}
 use Rattle.solve.proofs.StateMasks.{sources-start, unused-start, free-lowest, free-none, bit-after, sources-next, unused-next}
 
@@ -42,7 +43,7 @@ module _ (n : ℕ) (lost : ℕ → Bool) (u : ℕ) (cell : ℕ → ℕ) (h : Lis
 unused-clear : (E n : ℕ) (equation : ℕ → ℕ → Bool) (lost : ℕ → Bool) (c : ℕ) (s : State) → c ≤ n → run E equation lost c ≡ passed s
     → (d : ℕ) → d < c → lost d ≡ true → (q : ℕ) → q < E → s .used q ≡ false → s .row q d ≡ false
 unused-clear E n equation lost c s l at d ld isLost q lq unused =
-    let reached : Passed E n equation lost c s = subst (Reached E n equation lost c) at (run-reached E n equation lost c l) in
+    let reached : PassedTo E n equation lost c s = subst (Reached E n equation lost c) at (run-reached E n equation lost c l) in
     let solved = reached .all d ld isLost in
     reached .keeps .column d solved q lq ∙ ne-eqb q (s .chosen d) (λ same. clash (ap (s .used) same ∙ reached .keeps .taken d solved) unused)
 
@@ -179,19 +180,17 @@ module _ (E u : ℕ) (first : List ℕ) where
   }
 
   pub sofar-stops : (rows sources chosen : List ℕ) (unused k q : ℕ) → E < 64 → u ≤ 64 → k < u → q ≡ 64 → IsLowest 64 (startsAt rows unused k) q
-      → Sofar E u first rows sources chosen unused k → Eliminates E u first sources chosen (record { determined = false; unused = unused })
+      → Sofar E u first rows sources chosen unused k → Eliminates E u first sources chosen Stopped
   sofar-stops rows sources chosen unused k q few lu lk e none h = record {
     longSources = h .longSources;
     longChosen = h .longChosen;
-    passes = λ t. clash t refl;
-    stops = λ t p. stands-stops E u first p rows sources chosen unused k few lu lk (h .stands p) (subst (IsLowest 64 (startsAt rows unused k)) e none);
+    answers = λ p. stands-stops E u first p rows sources chosen unused k few lu lk (h .stands p) (subst (IsLowest 64 (startsAt rows unused k)) e none);
   }
 
   pub sofar-all : (rows sources chosen : List ℕ) (unused k : ℕ) → k ≡ u
-      → Sofar E u first rows sources chosen unused k → Eliminates E u first sources chosen (record { determined = true; unused = unused })
+      → Sofar E u first rows sources chosen unused k → Eliminates E u first sources chosen (Passed unused)
   sofar-all rows sources chosen unused k e h = record {
     longSources = h .longSources;
     longChosen = h .longChosen;
-    passes = λ _ p. let at = h .stands p in (at .s, at .end (omega arith), subst (λ (n : ℕ). Masked E n (p .cell) (at .s) sources chosen unused) e (at .masked));
-    stops = λ t. clash refl t;
+    answers = λ p. let at = h .stands p in (at .s, at .end (omega arith), subst (λ (n : ℕ). Masked E n (p .cell) (at .s) sources chosen unused) e (at .masked));
   }

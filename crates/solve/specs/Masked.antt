@@ -8,6 +8,7 @@ use lib.Bits.{bitXor}
 use lib.Dec.{eqb, ltb}
 use lib.ListN.{length, getD}
 use Rattle.solve.specs.declared.Eliminated.{Eliminated}
+use Rattle.solve.specs.declared.Eliminated.the-variants.{Passed, Stopped}
 use Rattle.bits.specs.Bit.{bit, lowest}
 use Rattle.elimination.specs.Method.{State, Outcome, passed, stopped, run}
 
@@ -75,11 +76,13 @@ pub record Masked (E u : ℕ) (cell : ℕ → ℕ) (s : State) (sources chosen :
   pub source : (q : ℕ) → q < E → Sources E s q (getD sources q 0)
   pub free : Unused E s unused
 
--- The answer on every problem with these masks: it is determined where the method passes all cells, and what is lent then holds the
--- state; elsewhere the method stops.
+-- what an answer says of a problem: the method passed all cells, and what is lent holds its state; or it stopped
+abbrev pub Answers : (E u : ℕ) (masks sources chosen : List ℕ) → Problem E u masks → Eliminated → Type 0
+Answers E u masks sources chosen p (Passed unused) = (s : State) × (outcome E u masks p ≡ passed s) × Masked E u (p .cell) s sources chosen unused
+Answers E u masks sources chosen p Stopped = (c : ℕ) × (s : State) × (outcome E u masks p ≡ stopped c s)
+
+-- the answer is right on every problem with these masks
 pub record Eliminates (E u : ℕ) (masks sources chosen : List ℕ) (answer : Eliminated) : Type 0 where
   pub longSources : length sources ≡ 64
   pub longChosen : length chosen ≡ 64
-  pub passes : answer .determined ≡ true → (p : Problem E u masks)
-      → (s : State) × (outcome E u masks p ≡ passed s) × Masked E u (p .cell) s sources chosen (answer .unused)
-  pub stops : answer .determined ≡ false → (p : Problem E u masks) → (c : ℕ) × (s : State) × (outcome E u masks p ≡ stopped c s)
+  pub answers : (p : Problem E u masks) → Answers E u masks sources chosen p answer

@@ -5,10 +5,10 @@ ghost use lib.ListN.{length};
 ghost use Rattle.bits.specs.Bit.{IsLowest};
 ghost use Rattle.solve.specs.Masked.{firstCell, startsAt, Holding, Spread, Own, Eliminates};
 
-// What elimination answers: whether it found an equation for every lost cell, and the set of the equations that it didn't use.
-pub struct Eliminated {
-    pub determined: bool,
-    pub unused: u64,
+// What elimination answers: it passed all lost cells, and this is the set of the equations that it didn't use; or it stopped at one that has no equation.
+pub enum Eliminated {
+    Passed(u64),
+    Stopped,
 }
 
 // An equation's first unsolved cell: the lowest of the lost cells that it holds; 64 where it holds none.
@@ -95,10 +95,7 @@ pub fn eliminate(
     while k < lost {
         let q = find_equation(rows, unused, k);
         if q == 64 {
-            return Eliminated {
-                determined: false,
-                unused: unused,
-            };
+            return Eliminated::Stopped;
         }
         let one = bits::one_bit(q);
         let others = holding(rows, equations, k) ^ one;
@@ -108,8 +105,5 @@ pub fn eliminate(
         unused = unused ^ one;
         k += 1;
     }
-    Eliminated {
-        determined: true,
-        unused: unused,
-    }
+    Eliminated::Passed(unused)
 }

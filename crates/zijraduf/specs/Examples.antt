@@ -10,8 +10,7 @@ use Rattle.codes.specs.Refusals.{refusal}
 use Rattle.stripe.specs.Write.{Written, Depending}
 use Rattle.rebuild.specs.declared.BadColumn.{BadColumn}
 use Rattle.rebuild.specs.declared.BadColumn.the-variants.{Column, Unexplained}
-use Rattle.rebuild.specs.Survivors.{Undetermined}
-use Rattle.rebuild.specs.Rebuild.{named}
+use Rattle.decide.specs.Survivors.{Undetermined, named}
 use Rattle.rebuild.specs.Bad.{Finds}
 use Rattle.spare.specs.declared.PlanAnswer.the-variants.{Plan}
 use Rattle.spare.specs.Refusals.{runFaults}

@@ -2,7 +2,7 @@
 use mathlib.Core.Path.{refl}
 use Prim.Native.Nat.{ℕ}
 use lib.ListN.{length-replicate}
-use borrow.Author.Tests.{not-true, not-false}
+use Rattle.decide.proofs.Solving.{is-solved, is-open}
 use Rattle.rebuild.proofs.Naming.{column-determined, column-says}
 use native.Mathlib.Omega.{arith}
 use borrow.Author.Needs.{needs}
@@ -15,25 +15,38 @@ mark-columns-requires c κs = (c .before .pre .0, c .before .pre .2, omega (arit
 decide-requires : tie.Need-decide-requires
 decide-requires c κs = (c .before .before .before .before .before .pre .0, refl, refl, refl)
 
+enum-known-d : tie.Need-enum-known-d
+enum-known-d c = search needs
+
+enum-told : tie.Need-enum-told
+enum-told c = search needs
+
 returns : tie.Need-returns
 returns c =
-    let start = c .before .before .before .before .before .before .before .before in
-    absurd (column-determined (start .args .shape) (start .pre .0) (start .args .column) (start .pre .2) (start .args .stripe .now) (start .pre .1) (λ i. omega (arith, c .before .before .before .before .before .before .before .shared-slice-known .given i)) _
-    (c .before .before .before .before .before .before .mark-columns .ensures) (c .before .before .decide .ensures .open′ (not-true _ (c .if1 .taken))))
+    let decided = c .before .before in
+    let marked = decided .before .before .before .before in
+    let start = marked .before .before in
+    absurd (column-determined (start .args .shape) (start .pre .0) (start .args .column) (start .pre .2) (start .args .stripe .now) (start .pre .1) (λ i. omega (arith, marked .before .shared-slice-known .given i)) _
+    (marked .mark-columns .ensures) (is-open _ _ _ _ _ _ (decided .decide .ensures) (c .enum-told .given .1)))
 
 slice-aggregate-survivors-agree : tie.Need-slice-aggregate-survivors-agree
 slice-aggregate-survivors-agree c = search needs
 
 survivors-agree-requires : tie.Need-survivors-agree-requires
 survivors-agree-requires c κs =
-    let solver = c .before .before .before .before .decide .ensures .solved (not-false _ (c .before .before .if1 .left)) in
-    (c .before .before .before .before .before .before .before .before .before .before .pre .0, c .before .before .before .before .before .before .before .before .before .before .pre .1, solver .tests, length-replicate {A = ℕ} 32768 0)
+    let known = c .before .before .before in
+    let decided = known .before .before in
+    let start = decided .before .before .before .before .before .before in
+    (start .pre .0, start .pre .1, is-solved _ _ _ _ _ _ (decided .decide .ensures) _ _ (known .d .given .1) .tests, length-replicate {A = ℕ} 32768 0)
 
 returns-2 : tie.Need-returns-2
 returns-2 c =
-    let start = c .before .before .before .before .before .before .before .before .before .before .before .before in
-    column-says (start .args .shape) (start .pre .0) (start .args .column) (start .pre .2) (start .args .stripe .now) (start .pre .1) (λ i. omega (arith, c .before .before .before .before .before .before .before .before .before .before .before .shared-slice-known .given i)) _
-    (c .before .before .before .before .before .before .before .before .before .before .mark-columns .ensures) _ _ _ _ _ (c .before .before .before .before .before .before .decide .ensures .solved (not-false _ (c .before .before .before .before .if1 .left))) _ (c .before .survivors-agree .ensures .0)
+    let known = c .before .before .before .before .before in
+    let decided = known .before .before in
+    let marked = decided .before .before .before .before in
+    let start = marked .before .before in
+    column-says (start .args .shape) (start .pre .0) (start .args .column) (start .pre .2) (start .args .stripe .now) (start .pre .1) (λ i. omega (arith, marked .before .shared-slice-known .given i)) _
+    (marked .mark-columns .ensures) _ _ _ _ _ (is-solved _ _ _ _ _ _ (decided .decide .ensures) _ _ (known .d .given .1)) _ (c .before .survivors-agree .ensures .0)
 
 pub column-agrees-spec : {M : Type 1} → statement M
 column-agrees-spec =
@@ -41,6 +54,8 @@ column-agrees-spec =
     (tie.spec
     mark-columns-requires
     decide-requires
+    enum-known-d
+    enum-told
     returns
     slice-aggregate-survivors-agree
     survivors-agree-requires

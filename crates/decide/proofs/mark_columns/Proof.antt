@@ -1,12 +1,12 @@
--- `rebuild::mark_columns` meets its contract. The loop's invariant: the map marks the cells of the first i rows in both columns.
+-- `decide::mark_columns` meets its contract. The loop's invariant: the map marks the cells of the first i rows in both columns.
 use mathlib.Core.Path.{refl}
 use Prim.Native.Nat.{ℕ, _+_, _-_, _*_, _≤_, _<_}
 use native.Mathlib.Omega.{arith}
 use Rattle.codes.specs.Shape.{columns}
-use Rattle.rebuild.proofs.Marks.{Marked, ofColumns, marked-none, marked-two, columns-all, in-map}
+use Rattle.decide.proofs.Marks.{Marked, ofColumns, marked-none, marked-two, columns-all, in-map}
 use borrow.Author.Needs.{needs}
-use Rattle.rebuild.proofs.mark_columns.Statement.{statement}
-use Rattle.rebuild.proofs.mark_columns.Tie as tie
+use Rattle.decide.proofs.mark_columns.Statement.{statement}
+use Rattle.decide.proofs.mark_columns.Tie as tie
 
 abbrev Inv-loop : tie.InvT-loop
 Inv-loop a b n map₀ i₀ map i = (i ≤ n) × Marked (ofColumns a b n) i map

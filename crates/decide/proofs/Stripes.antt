@@ -14,7 +14,7 @@ use Rattle.codes.specs.Encoded.{parityCell, Solves, byteAt}
 use Rattle.codes.proofs.Ordered.{ordered}
 use Rattle.codes.proofs.Parity.{sum-same}
 use Rattle.stripe.proofs.Built.{built, built-long, built-at, built-byte}
-use Rattle.rebuild.specs.Survivors.{EncodedStripe, Undetermined}
+use Rattle.decide.specs.Survivors.{EncodedStripe, Undetermined}
 
 -- cells of any size
 module _ (s : Shape) (low : 1 ≤ s .cell) (parity : (q : ℕ) → q < equations s → parityCell s q < cells s) where

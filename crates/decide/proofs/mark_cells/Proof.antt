@@ -1,13 +1,13 @@
--- `rebuild::mark_cells` meets its contract. The loop's invariant: the map marks the cells that the first k numbers name.
+-- `decide::mark_cells` meets its contract. The loop's invariant: the map marks the cells that the first k numbers name.
 use mathlib.Core.Path.{refl}
 use Prim.Native.Nat.{_-_, _≤_, _<_}
 use native.Mathlib.Omega.{arith}
 use lib.ListN.{length, getD}
 use Rattle.codes.proofs.Shapes.{cells-high}
-use Rattle.rebuild.proofs.Marks.{Marked, ofList, marked-none, marked-one, named-all}
+use Rattle.decide.proofs.Marks.{Marked, ofList, marked-none, marked-one, named-all}
 use borrow.Author.Needs.{needs}
-use Rattle.rebuild.proofs.mark_cells.Statement.{statement}
-use Rattle.rebuild.proofs.mark_cells.Tie as tie
+use Rattle.decide.proofs.mark_cells.Statement.{statement}
+use Rattle.decide.proofs.mark_cells.Tie as tie
 
 abbrev Inv-loop : tie.InvT-loop
 Inv-loop lost map₀ k₀ map k = (k ≤ length lost) × Marked (ofList lost) k map

@@ -1,14 +1,14 @@
--- `rebuild::list_lost` meets its contract. The loop's invariant: the lost cells below c are listed, and there are u of them.
+-- `decide::list_lost` meets its contract. The loop's invariant: the lost cells below c are listed, and there are u of them.
 use Prim.Native.Nat.{_-_, _≤_, _<_}
 use Rattle.codes.proofs.Shapes.{cells-high, small-equations}
-use Rattle.rebuild.specs.Solver.{lostIn}
-use Rattle.rebuild.proofs.Lists.{ListedTo, listed-none, listed-over, listed-with, listed-is, listed-end, listed-more}
+use Rattle.decide.specs.Solver.{lostIn}
+use Rattle.decide.proofs.Lists.{ListedTo, listed-none, listed-over, listed-with, listed-is, listed-end, listed-more}
 use mathlib.Core.Path.{refl, sym}
 use mathlib.Core.Logic.{⊎-elim}
 use native.Mathlib.Omega.{arith}
 use borrow.Author.Needs.{needs}
-use Rattle.rebuild.proofs.list_lost.Statement.{statement}
-use Rattle.rebuild.proofs.list_lost.Tie as tie
+use Rattle.decide.proofs.list_lost.Statement.{statement}
+use Rattle.decide.proofs.list_lost.Tie as tie
 
 abbrev Inv-loop : tie.InvT-loop
 Inv-loop listed₀ map n most u₀ c₀ listed u c = (c ≤ n) × (u ≤ most) × ListedTo (lostIn map) c u listed

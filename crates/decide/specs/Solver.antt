@@ -13,8 +13,9 @@ use Rattle.codes.specs.declared.Shape.{Shape}
 use Rattle.codes.specs.Shape.{cells, equations}
 use Rattle.codes.specs.Encoded.{Solves, total}
 use Rattle.codes.specs.Holders.{holds}
-use Rattle.rebuild.specs.declared.Decided.{Decided}
-use Rattle.rebuild.specs.Survivors.{Undetermined}
+use Rattle.decide.specs.declared.Decided.{Decided}
+use Rattle.decide.specs.declared.Decided.the-variants.{Solved, Open}
+use Rattle.decide.specs.Survivors.{Undetermined}
 
 -- the XOR of the totals of the equations in the set m
 unfoldable pub summed : Shape → ℕ → (ℕ → ℕ) → ℕ
@@ -64,7 +65,7 @@ pub record Solver (s : Shape) (lost : ℕ → Bool) (u : ℕ) (lostCells sets : 
   -- and there is no other
   pub unique : (f g : ℕ → ℕ) → Solves s f → Solves s g → ((c : ℕ) → c < cells s → lost c ≡ false → f c ≡ g c) → (c : ℕ) → c < cells s → f c ≡ g c
 
--- whether the lost cells are determined, and how they are found then
-pub record Decision (s : Shape) (lost : ℕ → Bool) (lostCells sets checks : List ℕ) (d : Decided) : Type 0 where
-  pub solved : d .determined ≡ true → Solver s lost (d .lost) lostCells sets (d .checks) checks
-  pub open′ : d .determined ≡ false → Undetermined s lost
+-- what a decision says: how the lost cells are found, or that they are undetermined
+abbrev pub Decision : Shape → (ℕ → Bool) → List ℕ → List ℕ → List ℕ → Decided → Type 0
+Decision s lost lostCells sets checks (Solved u v) = Solver s lost u lostCells sets v checks
+Decision s lost lostCells sets checks Open = Undetermined s lost

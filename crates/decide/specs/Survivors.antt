@@ -2,12 +2,22 @@
 use mathlib.Core.Path.{_≡_}
 use mathlib.Core.Logic.{_≢_}
 use mathlib.Core.List.{List}
-use mathlib.Core.Bool.{Bool, false}
-use Prim.Native.Nat.{ℕ, _<_}
+use mathlib.Core.Bool.{Bool, false, _||_}
+use Prim.Native.Nat.{ℕ, _/_, _<_}
+use lib.Dec.{eqb}
 use lib.ListN.{length, getD}
+use Rattle.xor.specs.Sets.{any}
 use Rattle.codes.specs.declared.Shape.{Shape}
-use Rattle.codes.specs.Shape.{cells, stripeLength}
+use Rattle.codes.specs.Shape.{rows, cells, stripeLength}
 use Rattle.codes.specs.Encoded.{byteAt, Encoded}
+
+-- whether a list names cell c
+unfoldable pub named : List ℕ → ℕ → Bool
+named numbers c = any (length numbers) (λ k. eqb (getD numbers k 0) c)
+
+-- whether cell c lies in column a or in column b
+unfoldable pub inColumns : Shape → ℕ → ℕ → ℕ → Bool
+inColumns s a b c = eqb (c / rows s) a || eqb (c / rows s) b
 
 -- x is an encoded stripe: bytes, as many as the shape says, in which every equation holds
 pub record EncodedStripe (s : Shape) (x : List ℕ) : Type 0 where

@@ -14,11 +14,12 @@ use Rattle.xor.proofs.Cases.{by-test, by-less, clash, and-left, and-right, and-
 use Rattle.xor.proofs.Algebra.{⊕-zero}
 use Rattle.xor.proofs.Sums.{xors-zero, xors-one}
 use Rattle.solve.specs.declared.Eliminated.{Eliminated}
+use Rattle.solve.specs.declared.Eliminated.the-variants.{Passed, Stopped}
 use Rattle.bits.specs.Bit.{bit, Members}
 use Rattle.elimination.specs.Method.{State}
 use Rattle.elimination.specs.Solution.{over, Solution}
 use Rattle.elimination.specs.Verdict as verdict
-use Rattle.solve.specs.Masked.{Lists, Problem, Masked, Eliminates}
+use Rattle.solve.specs.Masked.{Lists, Problem, Masked, Answers, Eliminates}
 use Rattle.elimination.proofs.Over.{over-values, over-tests}
 use Rattle.elimination.proofs.Elimination.{passed-all, stopped-at, too-many}
 use Rattle.codes.specs.declared.Shape.{Shape}
@@ -28,9 +29,11 @@ use Rattle.codes.specs.Holders.{holds}
 use Rattle.codes.proofs.Ordered.{ordered}
 use Rattle.codes.proofs.Shapes.{small-equations}
 use Rattle.codes.proofs.Solutions.{total-zero, zero-total, total-holds, solves-same}
-use Rattle.rebuild.specs.Survivors.{Undetermined}
-use Rattle.rebuild.specs.Solver.{summed, mended, lostIn, Listed, Gathered, Rows, Solver, Decision}
-use Rattle.rebuild.proofs.Stripes.{two-solutions}
+use Rattle.decide.specs.declared.Decided.{Decided}
+use Rattle.decide.specs.declared.Decided.the-variants.{Solved, Open}
+use Rattle.decide.specs.Survivors.{Undetermined}
+use Rattle.decide.specs.Solver.{summed, mended, lostIn, Listed, Gathered, Rows, Solver, Decision}
+use Rattle.decide.proofs.Stripes.{two-solutions}
 
 -- ---- solutions of a code's equations, as tests on cells
 
@@ -141,17 +144,11 @@ undetermined s w lost c h =
 
 module _ (s : Shape) (w : WellFormed s) (map : List Bool) (u : ℕ) (list : List ℕ) (listed : Listed s map u list) where
   -- more lost cells than equations
-  pub decision-more : (sets checks : List ℕ) → equations s < u → Decision s (lostIn map) list sets checks (record { determined = false; lost = 0; checks = 0 })
-  decision-more sets checks more = record {
-    solved = λ e. clash e refl;
-    open′ = λ e. let found = too-many (equations s) (cells s) (holds s) (lostIn map) (listed .more more) in undetermined s w (lostIn map) (found .0) (found .1);
-  }
+  pub decision-more : equations s < u → Undetermined s (lostIn map)
+  decision-more more = let found = too-many (equations s) (cells s) (holds s) (lostIn map) (listed .more more) in undetermined s w (lostIn map) (found .0) (found .1)
 
-  module _ (few : u ≤ equations s) (rows : List ℕ) (held : Rows s u list rows) (sources chosen : List ℕ) (e : Eliminated)
-      (n : ℕ) (is : n ≡ equations s) (eliminates : Eliminates n u rows sources chosen e) where
-    h : Eliminates (equations s) u rows sources chosen e
-    h = subst (λ (k : ℕ). Eliminates k u rows sources chosen e) is eliminates
-
+  module _ (few : u ≤ equations s) (rows : List ℕ) (held : Rows s u list rows) (sources chosen : List ℕ) (answer : Eliminated)
+      (n : ℕ) (is : n ≡ equations s) (eliminates : Eliminates n u rows sources chosen answer) where
     abbrev problem : Problem (equations s) u rows
     problem = record {
       n = cells s;
@@ -162,28 +159,36 @@ module _ (s : Shape) (w : WellFormed s) (map : List Bool) (u : ℕ) (list : List
       rows = held .bits;
     }
 
-    -- the method stopped
-    pub decision-open : (sets checks : List ℕ) → e .determined ≡ false → Decision s (lostIn map) list sets checks (record { determined = false; lost = 0; checks = 0 })
-    decision-open sets checks p = record {
-      solved = λ q. clash q refl;
-      open′ = λ q.
-          let found = h .stops p problem in
-          undetermined s w (lostIn map) (found .0) (stopped-at (equations s) (cells s) (holds s) (lostIn map) (found .0) (found .1) (found .2));
-    }
+    -- the answer, as the code has matched it
+    said : (a : Eliminated) → answer ≡ a → Answers (equations s) u rows sources chosen problem a
+    said a e = subst (Answers (equations s) u rows sources chosen problem) e (subst (λ (k : ℕ). Eliminates k u rows sources chosen answer) is eliminates .answers problem)
 
-    pub chosen-small : e .determined ≡ true → (k : ℕ) → k < u → getD chosen k 0 < 64
-    chosen-small p k l =
-        let found = h .passes p problem in
-        let determined = passed-all (equations s) (cells s) (holds s) (lostIn map) (found .0) (found .1) in
-        omega (arith, found .2 .choice k l, determined .below (getD list k 0) (listed .lists few .inside k l) (listed .lists few .isLost k l), small-equations s w)
+    -- the method stopped
+    pub decision-open : answer ≡ Stopped → Undetermined s (lostIn map)
+    decision-open e =
+        let found = said Stopped e in
+        undetermined s w (lostIn map) (found .0) (stopped-at (equations s) (cells s) (holds s) (lostIn map) (found .0) (found .1) (found .2))
 
     -- it passed
-    pub decision-solved : e .determined ≡ true → (sets : List ℕ) → Gathered chosen sources u sets → (v : ℕ) (free checks : List ℕ) → Members (e .unused) 1 v free → Gathered free sources v checks
-        → Decision s (lostIn map) list sets checks (record { determined = true; lost = u; checks = v })
-    decision-solved p sets gives v free checks members tests = record {
-      solved = λ q.
-          let found = h .passes p problem in
-          solver s w (lostIn map) u list (listed .lists few) (found .0) (passed-all (equations s) (cells s) (holds s) (lostIn map) (found .0) (found .1)) sources chosen (e .unused) (found .2)
-          sets gives v free checks members tests (omega (arith, small-equations s w)) (listed .long);
-      open′ = λ q. clash refl q;
-    }
+    module _ (unused : ℕ) (e : answer ≡ Passed unused) where
+      pub chosen-small : (k : ℕ) → k < u → getD chosen k 0 < 64
+      chosen-small k l =
+          let found = said (Passed unused) e in
+          let determined = passed-all (equations s) (cells s) (holds s) (lostIn map) (found .0) (found .1) in
+          omega (arith, found .2 .choice k l, determined .below (getD list k 0) (listed .lists few .inside k l) (listed .lists few .isLost k l), small-equations s w)
+
+      pub decision-solved : (sets : List ℕ) → Gathered chosen sources u sets → (v : ℕ) (free checks : List ℕ) → Members unused 1 v free → Gathered free sources v checks
+          → Solver s (lostIn map) u list sets v checks
+      decision-solved sets gives v free checks members tests =
+          let found = said (Passed unused) e in
+          solver s w (lostIn map) u list (listed .lists few) (found .0) (passed-all (equations s) (cells s) (holds s) (lostIn map) (found .0) (found .1)) sources chosen unused (found .2)
+          sets gives v free checks members tests (omega (arith, small-equations s w)) (listed .long)
+
+-- ---- a decision, as the code has matched it
+
+module _ (s : Shape) (lost : ℕ → Bool) (list sets checks : List ℕ) (d : Decided) (h : Decision s lost list sets checks d) where
+  pub is-solved : (u v : ℕ) → d ≡ Solved u v → Solver s lost u list sets v checks
+  is-solved u v e = subst (Decision s lost list sets checks) e h
+
+  pub is-open : d ≡ Open → Undetermined s lost
+  is-open e = subst (Decision s lost list sets checks) e h

@@ -26,7 +26,7 @@ use Rattle.codes.specs.declared.Holders.{Holders}
 use Rattle.codes.specs.Shape.{rows, columns, cells, equations, cellNumber, WellFormed}
 use Rattle.codes.specs.Holders.{holds, HeldBy}
 use Rattle.codes.proofs.Shapes.{rows-low, small-equations}
-use Rattle.rebuild.specs.Solver.{lostIn, Listed, Gathered, Rows}
+use Rattle.decide.specs.Solver.{lostIn, Listed, Gathered, Rows}
 
 -- ---- what a list names
 

@@ -18,9 +18,9 @@ use Rattle.codes.specs.Shape.{rows, columns, cells, cellNumber, WellFormed}
 use Rattle.codes.proofs.Shapes.{rows-low, cells-high}
 use Rattle.codes.proofs.Positions.{column-is, cell-inside, number-is}
 use Rattle.codes.proofs.Columns.{cell-is}
-use Rattle.rebuild.specs.Solver.{lostIn}
-use Rattle.rebuild.specs.Rebuild.{named, inColumns}
-use Rattle.rebuild.proofs.Lists.{new-at}
+use Rattle.decide.specs.Solver.{lostIn}
+use Rattle.decide.specs.Survivors.{named, inColumns}
+use Rattle.decide.proofs.Lists.{new-at}
 
 -- the cells marked are those of the first k turns; `marks j c` tells whether turn j marks cell c
 pub record Marked (marks : ℕ → ℕ → Bool) (k : ℕ) (map : List Bool) : Type 0 where

@@ -1,12 +1,12 @@
--- `rebuild::gather` meets its contract. The loop's invariant: the first k sources are gathered.
+-- `decide::gather` meets its contract. The loop's invariant: the first k sources are gathered.
 use mathlib.Core.Path.{refl}
 use Prim.Native.Nat.{_-_, _≤_}
-use Rattle.rebuild.specs.Solver.{Gathered}
-use Rattle.rebuild.proofs.Lists.{gathered-none, gathered-more, gathered-all}
+use Rattle.decide.specs.Solver.{Gathered}
+use Rattle.decide.proofs.Lists.{gathered-none, gathered-more, gathered-all}
 use native.Mathlib.Omega.{arith}
 use borrow.Author.Needs.{needs}
-use Rattle.rebuild.proofs.gather.Statement.{statement}
-use Rattle.rebuild.proofs.gather.Tie as tie
+use Rattle.decide.proofs.gather.Statement.{statement}
+use Rattle.decide.proofs.gather.Tie as tie
 
 abbrev Inv-loop : tie.InvT-loop
 Inv-loop list sources n sets₀ k₀ sets k = (k ≤ n) × Gathered list sources k sets

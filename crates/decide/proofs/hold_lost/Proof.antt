@@ -1,7 +1,7 @@
--- `rebuild::hold_lost` meets its contract. The loop's invariant: the masks have the first k lost cells.
+-- `decide::hold_lost` meets its contract. The loop's invariant: the masks have the first k lost cells.
 use Prim.Native.Nat.{ℕ, _-_, _≤_, _<_}
-use Rattle.rebuild.specs.Solver.{Rows}
-use Rattle.rebuild.proofs.Lists.{rows-none, rows-one, rows-two, rows-is, rows-all, rows-some, row-in, column-in, held-at}
+use Rattle.decide.specs.Solver.{Rows}
+use Rattle.decide.proofs.Lists.{rows-none, rows-one, rows-two, rows-is, rows-all, rows-some, row-in, column-in, held-at}
 use mathlib.Core.Path.{refl}
 use mathlib.Core.Logic.{⊎-elim}
 use lib.ListN.{getD}
@@ -10,8 +10,8 @@ use Rattle.codes.specs.Holders.{HeldBy}
 use Rattle.codes.proofs.Shapes.{small-equations}
 use native.Mathlib.Omega.{arith}
 use borrow.Author.Needs.{needs}
-use Rattle.rebuild.proofs.hold_lost.Statement.{statement}
-use Rattle.rebuild.proofs.hold_lost.Tie as tie
+use Rattle.decide.proofs.hold_lost.Statement.{statement}
+use Rattle.decide.proofs.hold_lost.Tie as tie
 
 abbrev Inv-loop : tie.InvT-loop
 Inv-loop shape listed lost rows₀ height n k₀ rows k = (k ≤ lost) × Rows shape k listed rows

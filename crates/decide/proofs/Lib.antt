@@ -1,0 +1,5 @@
+-- The laws behind what decides whether lost cells are determined.
+pub mod Lists
+pub mod Marks
+pub mod Stripes
+pub mod Solving

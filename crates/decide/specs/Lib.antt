@@ -1,0 +1,2 @@
+pub mod Survivors
+pub mod Solver

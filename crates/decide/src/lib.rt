@@ -1,0 +1,133 @@
+// Whether the survivors determine the lost cells, and how these are then found.
+ghost use mathlib.Core.Path.{_≡_};
+ghost use Prim.Native.Nat.{ℕ, _≤_, _<_};
+ghost use lib.ListN.{length, getD};
+ghost use Rattle.codes.specs.Shape.{columns, cells, WellFormed};
+ghost use Rattle.decide.specs.Survivors.{named, inColumns};
+ghost use Rattle.decide.specs.Solver.{lostIn, Listed, Rows, Gathered, Decision};
+use codes::Shape;
+
+// What was decided of a set of lost cells: the survivors determine them, and this is how many there are and how many checks the survivors have to
+// pass; or they leave them open.
+pub enum Decided {
+    Solved { lost: usize, checks: usize },
+    Open,
+}
+
+// The map of the cells that a list names.
+pub fn mark_cells(shape: Shape, lost: &[usize]) -> [bool; 961]
+    requires { ⌜ WellFormed shape × ((k : ℕ) → k < length (now lost) → getD (now lost) k 0 < cells shape) ⌝ }
+    ensures { λ r. ⌜ ((c : ℕ) → lostIn r c ≡ named (now (lost .entry)) c) ⌝ }
+{
+    let mut map = [false; 961];
+    let mut k = 0;
+    while k < lost.len() {
+        map[lost[k]] = true;
+        k += 1;
+    }
+    map
+}
+
+// The map of the cells in columns a and b.
+pub fn mark_columns(shape: Shape, a: usize, b: usize) -> [bool; 961]
+    requires { ⌜ WellFormed shape × (a < columns shape) × (b < columns shape) ⌝ }
+    ensures { λ r. ⌜ ((c : ℕ) → c < cells shape → lostIn r c ≡ inColumns shape a b c) ⌝ }
+{
+    let n = codes::row_count(shape);
+    let mut map = [false; 961];
+    let mut i = 0;
+    while i < n {
+        map[a * n + i] = true;
+        map[b * n + i] = true;
+        i += 1;
+    }
+    map
+}
+
+// Lists the lost cells by rising number. Answers how many there are, or one more than there are equations where there are more than these.
+fn list_lost(shape: Shape, map: [bool; 961], listed: &mut [usize; 64]) -> usize
+    requires { ⌜ WellFormed shape × (length (now listed) ≡ 64) ⌝ }
+    ensures { λ r. ⌜ Listed shape map r (now (listed .exit)) ⌝ }
+{
+    let n = codes::cell_count(shape);
+    let most = codes::equation_count(shape);
+    let mut u = 0;
+    let mut c = 0;
+    while c < n {
+        if map[c] {
+            if u == most {
+                return most + 1;
+            }
+            listed[u] = c;
+            u += 1;
+        }
+        c += 1;
+    }
+    u
+}
+
+// Fills in for each equation the set of the lost cells that it holds: bit k for lost cell number k.
+fn hold_lost(shape: Shape, listed: &[usize; 64], lost: usize, rows: &mut [u64; 64])
+    requires { ⌜ WellFormed shape × (lost ≤ 64) × ((k : ℕ) → k < lost → getD (now listed) k 0 < cells shape) × (length (now listed) ≡ 64) × (length (now rows) ≡ 64) × ((q : ℕ) → getD (now rows) q 0 ≡ 0) ⌝ }
+    ensures { λ _. ⌜ Rows shape lost (now (listed .entry)) (now (rows .exit)) ⌝ }
+{
+    let height = codes::row_count(shape);
+    let n = codes::equation_count(shape);
+    let mut k = 0;
+    while k < lost {
+        let c = listed[k];
+        let h = codes::holders_of(shape, c % height, c / height);
+        let one = bits::one_bit(k);
+        let first = h.first;
+        let second = h.second;
+        rows[first] = rows[first] ^ one;
+        if second < n {
+            rows[second] = rows[second] ^ one;
+        }
+        k += 1;
+    }
+}
+
+// For each of the first n numbers of a list the source that it names.
+fn gather(list: &[usize; 64], sources: &[u64; 64], n: usize, sets: &mut [u64; 64])
+    requires { ⌜ (n ≤ 64) × (length (now list) ≡ 64) × (length (now sources) ≡ 64) × (length (now sets) ≡ 64) × ((k : ℕ) → k < n → getD (now list) k 0 < 64) ⌝ }
+    ensures { λ _. ⌜ Gathered (now (list .entry)) (now (sources .entry)) n (now (sets .exit)) ⌝ }
+{
+    let mut k = 0;
+    while k < n {
+        sets[k] = sources[list[k]];
+        k += 1;
+    }
+}
+
+// Whether the survivors determine the lost cells. Where they do, what is lent holds the lost cells by rising number, for each the set of the
+// equations that gives it, and the sets that check the survivors.
+pub fn decide(
+    shape: Shape,
+    map: [bool; 961],
+    listed: &mut [usize; 64],
+    sets: &mut [u64; 64],
+    checks: &mut [u64; 64],
+) -> Decided
+    requires { ⌜ WellFormed shape × (length (now listed) ≡ 64) × (length (now sets) ≡ 64) × (length (now checks) ≡ 64) ⌝ }
+    ensures { λ r. ⌜ Decision shape (lostIn map) (now (listed .exit)) (now (sets .exit)) (now (checks .exit)) r ⌝ }
+{
+    let u = list_lost(shape, map, listed);
+    let n = codes::equation_count(shape);
+    if n < u {
+        return Decided::Open;
+    }
+    let mut rows = [0u64; 64];
+    let mut sources = [0u64; 64];
+    let mut chosen = [0usize; 64];
+    hold_lost(shape, listed, u, &mut rows);
+    let e = solve::eliminate(&mut rows, &mut sources, &mut chosen, u, n);
+    let solve::Eliminated::Passed(unused) = e else {
+        return Decided::Open;
+    };
+    gather(&chosen, &sources, u, sets);
+    let mut free = [0usize; 64];
+    let v = bits::list_members(unused, 1, &mut free);
+    gather(&free, &sources, v, checks);
+    Decided::Solved { lost: u, checks: v }
+}
