@@ -5,3 +5,4 @@ pub mod Refusals
 pub mod Lines
 pub mod Depends
 pub mod Holders
+pub mod Agree

@@ -3,3 +3,4 @@ pub mod Lists
 pub mod Marks
 pub mod Stripes
 pub mod Solving
+pub mod Determined

@@ -19,7 +19,8 @@ use Rattle.codes.proofs.Shapes.{rows-low, cells-high}
 use Rattle.codes.proofs.Positions.{column-is, cell-inside, number-is}
 use Rattle.codes.proofs.Columns.{cell-is}
 use Rattle.decide.specs.Solver.{lostIn}
-use Rattle.decide.specs.Survivors.{named, inColumns}
+use Rattle.codes.specs.Agree.{inColumns}
+use Rattle.decide.specs.Survivors.{named}
 use Rattle.decide.proofs.Lists.{new-at}
 
 -- the cells marked are those of the first k turns; `marks j c` tells whether turn j marks cell c

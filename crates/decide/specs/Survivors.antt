@@ -2,32 +2,25 @@
 use mathlib.Core.Path.{_≡_}
 use mathlib.Core.Logic.{_≢_}
 use mathlib.Core.List.{List}
-use mathlib.Core.Bool.{Bool, false, _||_}
-use Prim.Native.Nat.{ℕ, _/_, _<_}
+use mathlib.Core.Bool.{Bool}
+use Prim.Native.Nat.{ℕ, _<_}
 use lib.Dec.{eqb}
 use lib.ListN.{length, getD}
 use Rattle.xor.specs.Sets.{any}
 use Rattle.codes.specs.declared.Shape.{Shape}
-use Rattle.codes.specs.Shape.{rows, cells, stripeLength}
-use Rattle.codes.specs.Encoded.{byteAt, Encoded}
+use Rattle.codes.specs.Shape.{stripeLength}
+use Rattle.codes.specs.Encoded.{Encoded}
+use Rattle.codes.specs.Agree.{Agree}
 
 -- whether a list names cell c
 unfoldable pub named : List ℕ → ℕ → Bool
 named numbers c = any (length numbers) (λ k. eqb (getD numbers k 0) c)
-
--- whether cell c lies in column a or in column b
-unfoldable pub inColumns : Shape → ℕ → ℕ → ℕ → Bool
-inColumns s a b c = eqb (c / rows s) a || eqb (c / rows s) b
 
 -- x is an encoded stripe: bytes, as many as the shape says, in which every equation holds
 pub record EncodedStripe (s : Shape) (x : List ℕ) : Type 0 where
   pub long : length x ≡ stripeLength s
   pub bytes : (i : ℕ) → getD x i 0 < 256
   pub encoded : Encoded s x
-
--- a and b agree on every cell that isn't lost
-pub record Agree (s : Shape) (lost : ℕ → Bool) (a b : List ℕ) : Type 0 where
-  pub same : (c : ℕ) → c < cells s → lost c ≡ false → (t : ℕ) → t < s .cell → byteAt s a c t ≡ byteAt s b c t
 
 -- undetermined: two different encoded stripes agree with each other on every cell that isn't lost
 pub record Undetermined (s : Shape) (lost : ℕ → Bool) : Type 0 where

@@ -3,7 +3,8 @@ ghost use mathlib.Core.Path.{_≡_};
 ghost use Prim.Native.Nat.{ℕ, _≤_, _<_};
 ghost use lib.ListN.{length, getD};
 ghost use Rattle.codes.specs.Shape.{columns, cells, WellFormed};
-ghost use Rattle.decide.specs.Survivors.{named, inColumns};
+ghost use Rattle.codes.specs.Agree.{inColumns};
+ghost use Rattle.decide.specs.Survivors.{named};
 ghost use Rattle.decide.specs.Solver.{lostIn, Listed, Rows, Gathered, Decision};
 use codes::Shape;
 

@@ -53,7 +53,15 @@ pub fn first_failing(shape: Shape, stripe: &[u8], at: usize, n: usize) -> usize
 }
 
 // Puts n bytes of the total of equation q, the XOR of all its cells, into the bytes from `to` on.
-pub fn put_total(shape: Shape, stripe: &[u8], q: usize, at: usize, n: usize, into: &mut [u8], to: usize)
+pub fn put_total(
+    shape: Shape,
+    stripe: &[u8],
+    q: usize,
+    at: usize,
+    n: usize,
+    into: &mut [u8],
+    to: usize,
+)
     requires { ⌜ Window shape (now stripe) at n × (q < equations shape) × (to + n ≤ length (now into)) ⌝ }
     ensures { λ _. ⌜ Put (now (into .entry)) to n (λ i. total shape q (bytesAt shape (now (stripe .entry)) (at + i))) (now (into .exit)) ⌝ }
 {

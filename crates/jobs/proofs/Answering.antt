@@ -73,10 +73,10 @@ pub answer-small : (s : Shape) (lost old : List ℕ) (answer : ℕ) (new : List 
 answer-small s lost old answer new r = by-equal (refusal (cellsFaults s (length old) lost)) 0 right wrong
   where
     wrong : refusal (cellsFaults s (length old) lost) ≢ 0 → answer < 256
-    wrong n = omega (arith, r .refused n, refusal-small (cellsFaults s (length old) lost))
+    wrong n = omega (arith, r .refused n .0, refusal-small (cellsFaults s (length old) lost))
 
     right : refusal (cellsFaults s (length old) lost) ≡ 0 → answer < 256
-    right e = by-equal answer 11 (λ q. omega arith) (λ m. by-equal answer 12 (λ q. omega arith) (λ k. omega (arith, r .decides e .done m k .0)))
+    right e = by-equal answer 11 (λ q. omega arith) (λ m. by-equal answer 12 (λ q. omega arith) (λ k. omega (arith, done (shape) m k .0)))
 
 -- ---- what is written
 

@@ -9,20 +9,19 @@ use Rattle.xor.proofs.Cases.{by-equal}
 use Rattle.codes.specs.declared.Shape.{Shape}
 use Rattle.codes.specs.Shape.{cells, stripeLength}
 use Rattle.codes.specs.Refusals.{refusal, columnsFaults}
-use Rattle.decide.specs.Survivors.{inColumns}
+use Rattle.codes.specs.Agree.{inColumns}
 use Rattle.rebuild.specs.Rebuild.{Decides, Rebuilds, RebuildsColumns}
-use Rattle.rebuild.proofs.Deciding.{zero-done, lost-same}
+use Rattle.rebuild.proofs.Deciding.{kept, zero-done, lost-same}
 use Rattle.rebuild.proofs.Never.{columns-never}
 
 pub rebuilds-refused : (s : Shape) (lost : ℕ → Bool) (wrong : ℕ) (old : List ℕ) (answer : ℕ) → answer ≡ wrong → answer ≢ 0 → Rebuilds s lost wrong old answer old
-rebuilds-refused s lost wrong old answer e n = record { refused = λ _. e; decides = λ z. absurd (n (e ∙ z)); kept = λ _. refl }
+rebuilds-refused s lost wrong old answer e n = record { refused = λ _. (e, refl); decides = λ z. absurd (n (e ∙ z)) }
 
 pub rebuilds-decided : (s : Shape) (lost lost′ : ℕ → Bool) (wrong : ℕ) (old : List ℕ) (answer : ℕ) (new : List ℕ) → wrong ≡ 0 → ((c : ℕ) → c < cells s → lost c ≡ lost′ c)
-    → Decides s lost old answer new × (answer ≢ 0 → new ≡ old) → Rebuilds s lost′ wrong old answer new
+    → Decides s lost old answer new → Rebuilds s lost′ wrong old answer new
 rebuilds-decided s lost lost′ wrong old answer new z same h = record {
   refused = λ n. absurd (n z);
-  decides = λ _. lost-same s lost lost′ same old answer new (h .0);
-  kept = h .1;
+  decides = λ _. lost-same s lost lost′ same old answer new h;
 }
 
 -- of columns, which are never undetermined
@@ -31,5 +30,5 @@ pub rebuilds-columns : (s : Shape) (a b : ℕ) (old : List ℕ) (answer : ℕ) (
 rebuilds-columns s a b old answer new h = record { rebuilds = h; never = columns-never s a b old answer new h }
 
 -- the stripe keeps its length
-pub decided-long : (s : Shape) (lost : ℕ → Bool) (old : List ℕ) (answer : ℕ) (new : List ℕ) → length old ≡ stripeLength s → Decides s lost old answer new × (answer ≢ 0 → new ≡ old) → length new ≡ length old
-decided-long s lost old answer new long h = by-equal answer 0 (λ z. zero-done s lost old answer new (h .0) z .1 .is .long ∙ sym long) (λ n. ap length (h .1 n))
+pub decided-long : (s : Shape) (lost : ℕ → Bool) (old : List ℕ) (answer : ℕ) (new : List ℕ) → length old ≡ stripeLength s → Decides s lost old answer new → length new ≡ length old
+decided-long s lost old answer new long h = by-equal answer 0 (λ z. zero-done s lost old answer new h z .1 .is .long ∙ sym long) (λ n. ap length (kept s lost old answer new h n))

@@ -19,7 +19,7 @@ use Rattle.codes.specs.Holders.{holds}
 use Rattle.codes.proofs.Parity.{same-bytes}
 use Rattle.stripe.proofs.Built.{built, built-at}
 use Rattle.decide.specs.Survivors.{Undetermined, Restores}
-use Rattle.rebuild.specs.Lanes.{bytesAt}
+use Rattle.equation.specs.Window.{bytesAt}
 use Rattle.decide.proofs.Stripes.{built-encoded}
 use Rattle.decide.proofs.Solving.{as-solution, as-solves, undetermined}
 

@@ -18,20 +18,22 @@ use Rattle.codes.specs.Refusals.{refusal, cellsFaults, columnsFaults}
 use Rattle.codes.proofs.Refused.{cells-accepted, columns-accepted}
 use Rattle.codes.proofs.Ordered.{ordered}
 use Rattle.codes.proofs.Parity.{same-bytes}
-use Rattle.decide.specs.Survivors.{Agree, Undetermined, Restores, named, inColumns}
+use Rattle.codes.specs.Agree.{Agree, inColumns}
+use Rattle.decide.specs.Survivors.{Undetermined, Restores, named}
 use Rattle.rebuild.specs.Rebuild.{Decides, RebuildsCells, RebuildsColumns}
-use Rattle.rebuild.specs.Lanes.{bytesAt}
+use Rattle.equation.specs.Window.{bytesAt}
 use Rattle.decide.proofs.Stripes.{two-solutions}
 use Rattle.rebuild.proofs.OneAnswer.{restored-one}
-use Rattle.rebuild.proofs.Never.{columns-determined}
+use Rattle.decide.proofs.Determined.{columns-determined}
+use Rattle.rebuild.proofs.Deciding.{eleven, twelve, done}
 
 -- ---- an encoded stripe that agrees with the survivors comes back
 
 come-back : (s : Shape) → WellFormed s → (lost : ℕ → Bool) → (Undetermined s lost → ⊥) → (old x : List ℕ) → Restores s lost old x → (answer : ℕ) (new : List ℕ)
     → Decides s lost old answer new → (answer ≡ 0) × (new ≡ x)
 come-back s w lost determined old x restores answer new h =
-    let done = h .done (λ e. determined (h .eleven e)) (λ e. h .twelve e x restores) in
-    (done .0, restored-one s w lost determined old new x (done .1) restores)
+    let did = done s lost old answer new h (λ e. determined (eleven s lost old answer new h e)) (λ e. twelve s lost old answer new h e x restores) in
+    (did .0, restored-one s w lost determined old new x (did .1) restores)
 
 pub cells-come-back : (s : Shape) (numbers old x : List ℕ) → refusal (cellsFaults s (length old) numbers) ≡ 0 → (Undetermined s (named numbers) → ⊥)
     → Restores s (named numbers) old x → (answer : ℕ) (new : List ℕ) → RebuildsCells s numbers old answer new → (answer ≡ 0) × (new ≡ x)
@@ -127,5 +129,6 @@ empty-list s old right bytes answer new h = (same, λ broken. by-equal answer 12
     -- any answer but 12 leaves an encoded stripe, which is the old one
     kept : answer ≢ 12 → Encoded s old
     kept n =
-        let done = h .decides right .done (λ e. determined (h .decides right .eleven e)) n .1 in
-        subst (Encoded s) (sym (all-survive s (formed .0) old new (formed .1) (done .is .long) (done .agree))) (done .is .encoded)
+        let d = h .decides right in
+        let did = done s (named []) old answer new d (λ e. determined (eleven s (named []) old answer new d e)) n .1 in
+        subst (Encoded s) (sym (all-survive s (formed .0) old new (formed .1) (did .is .long) (did .agree))) (did .is .encoded)

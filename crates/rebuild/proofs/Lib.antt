@@ -1,14 +1,9 @@
 -- The laws behind the rebuild of lost cells and the search for a bad column.
-pub mod Lanes
-pub mod Rests
-pub mod Explained
-pub mod OneBad
 pub mod Rebuilding
 pub mod Deciding
 pub mod OneAnswer
 pub mod LostBytes
 pub mod Never
 pub mod Facts
-pub mod Naming
 pub mod Calls
 pub mod Computed

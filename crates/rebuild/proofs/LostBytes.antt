@@ -8,8 +8,10 @@ use Rattle.xor.proofs.Cases.{by-equal}
 use Rattle.codes.specs.declared.Shape.{Shape}
 use Rattle.codes.specs.Refusals.{refusal, cellsFaults, columnsFaults}
 use Rattle.codes.proofs.Refused.{cells-accepted, columns-accepted}
-use Rattle.decide.specs.Survivors.{Agree, named, inColumns}
+use Rattle.codes.specs.Agree.{Agree, inColumns}
+use Rattle.decide.specs.Survivors.{named}
 use Rattle.rebuild.specs.Rebuild.{Decides, Rebuilds, RebuildsCells, RebuildsColumns}
+use Rattle.rebuild.proofs.Deciding.{eleven, determined}
 use Rattle.rebuild.proofs.OneAnswer.{rebuilds-alike}
 
 -- the two calls on stripes of the same length that differ in lost cells only
@@ -27,7 +29,7 @@ columns-lost-bytes s i j old old′ long agree a a′ new new′ h h′ =
 
 -- 11 for one stripe, 11 for any other with the same cells lost
 undetermined-too : (s : Shape) (lost : ℕ → Bool) (old old′ : List ℕ) (a a′ : ℕ) (new new′ : List ℕ) → Decides s lost old a new → Decides s lost old′ a′ new′ → a ≡ 11 → a′ ≡ 11
-undetermined-too s lost old old′ a a′ new new′ h h′ e = by-equal a′ 11 (λ z. z) (λ n. absurd (h′ .determined n (h .eleven e)))
+undetermined-too s lost old old′ a a′ new new′ h h′ e = by-equal a′ 11 (λ z. z) (λ n. absurd (determined s lost old′ a′ new′ h′ n (eleven s lost old a new h e)))
 
 pub eleven-only : (s : Shape) (lost : ℕ → Bool) (wrong wrong′ : ℕ) → wrong ≡ 0 → wrong′ ≡ 0 → (old old′ : List ℕ) (a a′ : ℕ) (new new′ : List ℕ)
     → Rebuilds s lost wrong old a new → Rebuilds s lost wrong′ old′ a′ new′ → (a ≡ 11 → a′ ≡ 11) × (a′ ≡ 11 → a ≡ 11)

@@ -3,29 +3,18 @@ use mathlib.Core.Path.{_≡_, refl, sym, ap, _∙_, subst}
 use mathlib.Core.Logic.{_≢_}
 use mathlib.Core.List.{List, [], _∷_}
 use mathlib.Core.Bool.{Bool, true, cond}
-use Prim.Native.Nat.{ℕ, _/_, _<_}
+use Prim.Native.Nat.{ℕ}
 use native.Mathlib.Omega.{arith}
 use lib.ListN.{length}
-use borrow.Author.Tests.{ne-eqb}
 use Rattle.xor.proofs.Cases.{by-test, by-equal, clash}
 use Rattle.codes.specs.declared.Shape.{Shape}
-use Rattle.codes.specs.Shape.{rows, columns, WellFormed}
 use Rattle.codes.specs.Refusals.{Fault, order, applies, firstOf, refusal, shapeFaults, stripeFaults, columnsFaults}
 use Rattle.codes.proofs.Refused.{columns-accepted}
-use Rattle.codes.proofs.Parity.{same-bytes}
-use Rattle.codes.proofs.TwoColumns.{two-columns-determined}
-use Rattle.decide.specs.Survivors.{Undetermined, Restores, inColumns}
+use Rattle.codes.specs.Agree.{inColumns}
+use Rattle.decide.specs.Survivors.{Restores}
 use Rattle.rebuild.specs.Rebuild.{Rebuilds, RebuildsColumns}
-use Rattle.rebuild.specs.Lanes.{bytesAt}
-
--- encoded stripes that agree off two columns are equal
-pub columns-determined : (s : Shape) → WellFormed s → (a b : ℕ) → a < columns s → b < columns s → Undetermined s (inColumns s a b) → ⊥
-unfolding inColumns
-columns-determined s w a b la lb u =
-    u .differ (same-bytes s w (u .one) (u .other) (u .oneIs .long) (u .otherIs .long)
-    (λ c l t lt. two-columns-determined s w (bytesAt s (u .one) t) (bytesAt s (u .other) t)
-    (λ q lq. u .oneIs .encoded .holds q lq t lt) (λ q lq. u .otherIs .encoded .holds q lq t lt) a b la lb
-    (λ d ld n m. u .agree .same d ld (rw (ne-eqb (d / rows s) a n, ne-eqb (d / rows s) b m) refl) t lt) c l))
+use Rattle.decide.proofs.Determined.{columns-determined}
+use Rattle.rebuild.proofs.Deciding.{eleven, twelve, done}
 
 -- a refusal that is given applies
 given-applies : (numbers : List ℕ) (faults : List Fault) (n : ℕ) → firstOf numbers faults ≡ n → n ≢ 0 → applies faults n ≡ true
@@ -45,12 +34,12 @@ no-eleven s bytes a b e = clash (given-applies order (columnsFaults s bytes a b)
 pub columns-never : (s : Shape) (a b : ℕ) (old : List ℕ) (answer : ℕ) (new : List ℕ) → Rebuilds s (inColumns s a b) (refusal (columnsFaults s (length old) a b)) old answer new → answer ≢ 11
 columns-never s a b old answer new h e =
     by-equal (refusal (columnsFaults s (length old) a b)) 0
-    (λ z. let right = columns-accepted s (length old) a b z in columns-determined s (right .0) a b (right .2) (right .3) (h .decides z .eleven e))
-    (λ n. no-eleven s (length old) a b (sym (h .refused n) ∙ e))
+    (λ z. let right = columns-accepted s (length old) a b z in columns-determined s (right .0) a b (right .2) (right .3) (eleven s (inColumns s a b) old answer new (h .decides z) e))
+    (λ n. no-eleven s (length old) a b (sym (h .refused n .0) ∙ e))
 
 -- a rebuild of columns with the right numbers answers 12 exactly when no encoded stripe agrees with the survivors
 pub twelve-only : (s : Shape) (a b : ℕ) (old : List ℕ) → refusal (columnsFaults s (length old) a b) ≡ 0 → (answer : ℕ) (new : List ℕ) → RebuildsColumns s a b old answer new
     → (answer ≡ 12 → (x : List ℕ) → Restores s (inColumns s a b) old x → ⊥) × (((x : List ℕ) → Restores s (inColumns s a b) old x → ⊥) → answer ≡ 12)
 twelve-only s a b old right answer new h =
     let decides = h .rebuilds .decides right in
-    (decides .twelve, λ none. by-equal answer 12 (λ e. e) (λ n. absurd (none new (decides .done (h .never) n .1))))
+    (twelve s (inColumns s a b) old answer new decides, λ none. by-equal answer 12 (λ e. e) (λ n. absurd (none new (done s (inColumns s a b) old answer new decides (h .never) n .1))))

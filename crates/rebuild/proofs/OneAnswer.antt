@@ -12,13 +12,10 @@ use Rattle.codes.specs.Encoded.{byteAt}
 use Rattle.codes.specs.Refusals.{refusal, cellsFaults, columnsFaults}
 use Rattle.codes.proofs.Refused.{accepted, cells-accepted, columns-accepted}
 use Rattle.codes.proofs.Parity.{same-bytes}
-use Rattle.rebuild.specs.declared.BadColumn.{BadColumn}
-use Rattle.rebuild.specs.declared.BadColumn.the-variants.{Clean, Column, Unexplained, Refused}
-use Rattle.decide.specs.Survivors.{Agree, Undetermined, Restores, named, inColumns}
-use Rattle.rebuild.specs.Rebuild.{Decides, Rebuilds, RebuildsCells, RebuildsColumns}
-use Rattle.rebuild.specs.Bad.{badNumber, Finding, Finds}
-use Rattle.rebuild.proofs.OneBad.{one-bad-column}
-use Rattle.rebuild.proofs.Deciding.{agree-sym, agree-trans, restores-also, zero-done}
+use Rattle.codes.specs.Agree.{Agree, inColumns}
+use Rattle.decide.specs.Survivors.{Undetermined, Restores, named}
+use Rattle.rebuild.specs.Rebuild.{Decides, undetermined, disagree, restored, Rebuilds, RebuildsCells, RebuildsColumns}
+use Rattle.rebuild.proofs.Deciding.{agree-sym, agree-trans, restores-also, eleven, determined, twelve, done, kept, zero-done}
 
 -- ---- rebuild
 
@@ -39,16 +36,15 @@ restored-one s w lost determined old x y hx hy = same-bytes s w x y (hx .is .lon
 -- decisions on two stripes with the same survivors
 module _ (s : Shape) (lost : ℕ → Bool) (old old′ : List ℕ) (agree : Agree s lost old old′) (a b : ℕ) (x y : List ℕ) where
   answers-same : Decides s lost old a x → Decides s lost old′ b y → a ≡ b
-  answers-same ha hb =
-      by-equal a 11 (λ e. by-equal b 11 (λ z. e ∙ sym z) (λ n. absurd (hb .determined n (ha .eleven e))))
-      (λ n. by-equal b 11 (λ z. absurd (ha .determined n (hb .eleven z)))
-      (λ m. by-equal a 12
-      (λ e. by-equal b 12 (λ z. e ∙ sym z) (λ k. absurd (ha .twelve e y (restores-also s lost old′ old y (agree-sym s lost old old′ agree) (hb .done m k .1)))))
-      (λ j. by-equal b 12 (λ z. absurd (hb .twelve z x (restores-also s lost old old′ x agree (ha .done n j .1)))) (λ k. ha .done n j .0 ∙ sym (hb .done m k .0)))))
+  answers-same (undetermined u e k) hb = e ∙ sym (by-equal b 11 (λ z. z) (λ n. absurd (determined s lost old′ b y hb n u)))
+  answers-same (disagree d n e k) hb =
+      e ∙ sym (by-equal b 12 (λ z. z) (λ m. absurd (n y (restores-also s lost old′ old y (agree-sym s lost old old′ agree) (done s lost old′ b y hb (λ z. d (eleven s lost old′ b y hb z)) m .1)))))
+  answers-same (restored d r e) hb =
+      e ∙ sym (done s lost old′ b y hb (λ z. d (eleven s lost old′ b y hb z)) (λ z. twelve s lost old′ b y hb z x (restores-also s lost old old′ x agree r)) .0)
 
   -- the same numbers, and the same survivors: the same answer, and where it is 0 the same bytes
   pub rebuilds-alike : (wrong : ℕ) → (wrong ≡ 0 → WellFormed s) → Rebuilds s lost wrong old a x → Rebuilds s lost wrong old′ b y → (a ≡ b) × (a ≡ 0 → x ≡ y)
-  rebuilds-alike wrong formed ha hb = by-equal wrong 0 right (λ n. (ha .refused n ∙ sym (hb .refused n), λ z. absurd (n (sym (ha .refused n) ∙ z))))
+  rebuilds-alike wrong formed ha hb = by-equal wrong 0 right (λ n. (ha .refused n .0 ∙ sym (hb .refused n .0), λ z. absurd (n (sym (ha .refused n .0) ∙ z))))
     where
       right : wrong ≡ 0 → (a ≡ b) × (a ≡ 0 → x ≡ y)
       right e =
@@ -59,11 +55,15 @@ module _ (s : Shape) (lost : ℕ → Bool) (old old′ : List ℕ) (agree : Agre
                 restored-one s (formed e) lost (first .0) old x y (first .1) (restores-also s lost old′ old y (agree-sym s lost old old′ agree) (second .1)),
           )
 
+-- a refusal leaves every byte
+rebuilds-kept : (s : Shape) (lost : ℕ → Bool) (wrong : ℕ) (old : List ℕ) (answer : ℕ) (new : List ℕ) → Rebuilds s lost wrong old answer new → answer ≢ 0 → new ≡ old
+rebuilds-kept s lost wrong old answer new h n = by-equal wrong 0 (λ z. kept s lost old answer new (h .decides z) n) (λ k. h .refused k .1)
+
 rebuilds-one : (s : Shape) (lost : ℕ → Bool) (wrong : ℕ) (old : List ℕ) → (wrong ≡ 0 → WellFormed s) → (a b : ℕ) (x y : List ℕ)
     → Rebuilds s lost wrong old a x → Rebuilds s lost wrong old b y → (a ≡ b) × (x ≡ y)
 rebuilds-one s lost wrong old formed a b x y ha hb =
     let alike = rebuilds-alike s lost old old (record { same = λ c l e t lt. refl }) a b x y wrong formed ha hb in
-    (alike .0, by-equal a 0 (alike .1) (λ n. ha .kept n ∙ sym (hb .kept (λ z. n (alike .0 ∙ z)))))
+    (alike .0, by-equal a 0 (alike .1) (λ n. rebuilds-kept s lost wrong old a x ha n ∙ sym (rebuilds-kept s lost wrong old b y hb (λ z. n (alike .0 ∙ z)))))
 
 pub cells-one : (s : Shape) (numbers old : List ℕ) (a b : ℕ) (x y : List ℕ) → RebuildsCells s numbers old a x → RebuildsCells s numbers old b y → (a ≡ b) × (x ≡ y)
 cells-one s numbers old = rebuilds-one s (named numbers) (refusal (cellsFaults s (length old) numbers)) old (λ e. cells-accepted s (length old) numbers e .0)
@@ -71,37 +71,3 @@ cells-one s numbers old = rebuilds-one s (named numbers) (refusal (cellsFaults s
 pub columns-one : (s : Shape) (i j : ℕ) (old : List ℕ) (a b : ℕ) (x y : List ℕ) → RebuildsColumns s i j old a x → RebuildsColumns s i j old b y → (a ≡ b) × (x ≡ y)
 columns-one s i j old a b x y ha hb =
     rebuilds-one s (inColumns s i j) (refusal (columnsFaults s (length old) i j)) old (λ e. columns-accepted s (length old) i j e .0) a b x y (ha .rebuilds) (hb .rebuilds)
-
--- ---- bad column
-
-module _ (s : Shape) (stripe : List ℕ) where
-  found-one : WellFormed s → (a b : BadColumn) → Finding s stripe a → Finding s stripe b → a ≡ b
-  found-one w Clean Clean x y = refl
-  found-one w Clean (Column d) x y = absurd (y .0 x)
-  found-one w Clean Unexplained x y = absurd (y .0 x)
-  found-one w (Column c) Clean x y = absurd (x .0 y)
-  found-one w (Column c) (Column d) x y = ap Column (one-bad-column s w stripe (x .0) c d (x .1) (y .1))
-  found-one w (Column c) Unexplained x y = absurd (y .1 c (x .1))
-  found-one w Unexplained Clean x y = absurd (x .0 y)
-  found-one w Unexplained (Column d) x y = absurd (x .1 d (y .1))
-  found-one w Unexplained Unexplained x y = refl
-  found-one w Clean (Refused number) x y = absurd y
-  found-one w (Column c) (Refused number) x y = absurd y
-  found-one w Unexplained (Refused number) x y = absurd y
-  found-one w (Refused number) b x y = absurd x
-
--- an answer that gives a refusal number is that refusal
-refused-is : (answer : BadColumn) → badNumber answer ≢ 0 → answer ≡ Refused (badNumber answer)
-refused-is Clean k = absurd (k refl)
-refused-is (Column c) k = absurd (k refl)
-refused-is Unexplained k = absurd (k refl)
-refused-is (Refused number) k = refl
-
-pub bad-one : (s : Shape) (stripe : List ℕ) (a b : BadColumn) → Finds s stripe a → Finds s stripe b → a ≡ b
-bad-one s stripe a b ha hb =
-    by-equal (badNumber a) 0
-    (λ z. found-one s stripe (accepted s (length stripe) (sym (ha .number) ∙ z) .0) a b (ha .finding z) (hb .finding (sym same ∙ z)))
-    (λ n. refused-is a n ∙ ap Refused same ∙ sym (refused-is b (λ z. n (same ∙ z))))
-  where
-    same : badNumber a ≡ badNumber b
-    same = ha .number ∙ sym (hb .number)

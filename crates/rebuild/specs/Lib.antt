@@ -1,4 +1,2 @@
 pub mod Rebuild
-pub mod Bad
-pub mod Lanes
-pub mod Candidate
+pub mod Clean

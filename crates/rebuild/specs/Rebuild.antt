@@ -7,21 +7,22 @@ use Prim.Native.Nat.{ℕ}
 use lib.ListN.{length}
 use Rattle.codes.specs.declared.Shape.{Shape}
 use Rattle.codes.specs.Refusals.{refusal, cellsFaults, columnsFaults}
-use Rattle.decide.specs.Survivors.{named, inColumns, Undetermined, Restores}
+use Rattle.codes.specs.Agree.{inColumns}
+use Rattle.decide.specs.Survivors.{named, Undetermined, Restores}
 
--- the answer where the numbers are right: 11 exactly when the lost cells are undetermined; else 12 exactly when no encoded stripe agrees
--- with the survivors; else 0, and new is the encoded stripe that agrees with them
-pub record Decides (s : Shape) (lost : ℕ → Bool) (old : List ℕ) (answer : ℕ) (new : List ℕ) : Type 0 where
-  pub eleven : answer ≡ 11 → Undetermined s lost
-  pub determined : answer ≢ 11 → Undetermined s lost → ⊥
-  pub twelve : answer ≡ 12 → (x : List ℕ) → Restores s lost old x → ⊥
-  pub done : answer ≢ 11 → answer ≢ 12 → (answer ≡ 0) × Restores s lost old new
+-- demand 3, where the numbers are right: the lost cells are undetermined, the survivors disagree, or the stripe is restored
+pub data Decides (s : Shape) (lost : ℕ → Bool) (old : List ℕ) (answer : ℕ) (new : List ℕ) : Type 0 where
+  -- two different encoded stripes agree with each other on every cell that isn't lost: 11
+  undetermined : Undetermined s lost → answer ≡ 11 → new ≡ old → Decides s lost old answer new
+  -- otherwise no encoded stripe agrees with every cell that isn't lost: 12
+  disagree : (Undetermined s lost → ⊥) → ((x : List ℕ) → Restores s lost old x → ⊥) → answer ≡ 12 → new ≡ old → Decides s lost old answer new
+  -- otherwise one does, and is handed back: 0
+  restored : (Undetermined s lost → ⊥) → Restores s lost old new → answer ≡ 0 → Decides s lost old answer new
 
--- what is wrong with the numbers comes first, and any refusal leaves every byte
+-- what is wrong with the numbers comes first, and leaves every byte
 pub record Rebuilds (s : Shape) (lost : ℕ → Bool) (wrong : ℕ) (old : List ℕ) (answer : ℕ) (new : List ℕ) : Type 0 where
-  pub refused : wrong ≢ 0 → answer ≡ wrong
+  pub refused : wrong ≢ 0 → (answer ≡ wrong) × (new ≡ old)
   pub decides : wrong ≡ 0 → Decides s lost old answer new
-  pub kept : answer ≢ 0 → new ≡ old
 
 -- rebuild of the cells that a list names
 abbrev pub RebuildsCells : Shape → List ℕ → List ℕ → ℕ → List ℕ → Type 0

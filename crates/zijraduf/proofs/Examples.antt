@@ -27,7 +27,8 @@ use Rattle.stripe.specs.Write.{Written, Depending}
 use Rattle.stripe.proofs.Encoding.{settled}
 use Rattle.stripe.proofs.Parts.{point}
 use Rattle.stripe.proofs.Exists.{unit-exists, written-by}
-use Rattle.decide.specs.Survivors.{named, inColumns}
+use Rattle.codes.specs.Agree.{inColumns}
+use Rattle.decide.specs.Survivors.{named}
 use Rattle.rebuild.specs.declared.BadColumn.{BadColumn}
 use Rattle.rebuild.specs.declared.BadColumn.the-variants.{Clean, Column, Unexplained, Refused}
 use Rattle.rebuild.specs.Bad.{Replaceable, badNumber, Finding}

@@ -51,9 +51,13 @@ returns-2 c =
 gather-requires : tie.Need-gather-requires
 gather-requires c κs =
     let passed = c .before .before .before .before in
-    let at = passed .before .before in
-    (few-in (at .before .before .before .before .before .before .before), at .eliminate .ensures .longChosen, at .eliminate .ensures .longSources, at .before .before .before .before .before .before .before .before .before .before .before .pre .2,
-    chosen-small _ (at .before .before .before .before .before .before .before .before .before .before .before .pre .0) _ _ _ (at .before .before .before .before .before .before .before .before .before .list-lost .ensures) (few (at .before .before .before .before .before .before .before)) _ (at .before .before .before .before .hold-lost .ensures) _ _ _ _ (at .before .before .before .before .before .before .before .before .equation-count .ensures) (at .eliminate .ensures) _ (passed .e .given .1))
+    let at = passed .before .before in (
+      few-in (at .before .before .before .before .before .before .before),
+      at .eliminate .ensures .longChosen,
+      at .eliminate .ensures .longSources,
+      at .before .before .before .before .before .before .before .before .before .before .before .pre .2,
+      chosen-small _ (at .before .before .before .before .before .before .before .before .before .before .before .pre .0) _ _ _ (at .before .before .before .before .before .before .before .before .before .list-lost .ensures) (few (at .before .before .before .before .before .before .before)) _ (at .before .before .before .before .hold-lost .ensures) _ _ _ _ (at .before .before .before .before .before .before .before .before .equation-count .ensures) (at .eliminate .ensures) _ (passed .e .given .1),
+    )
 
 list-members-requires : tie.Need-list-members-requires
 list-members-requires c κs = (refl, omega arith)

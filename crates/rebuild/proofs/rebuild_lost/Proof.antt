@@ -1,5 +1,7 @@
 -- `rebuild::rebuild_lost` meets its contract. Undetermined; or nothing is lost; or the lost cells are mended.
-use Rattle.rebuild.proofs.Rebuilding.{mends-long, decides-mended, decides-clean, decides-open}
+use Rattle.lanes.proofs.Lanes.{mends-long}
+use Rattle.rebuild.specs.Rebuild.{undetermined}
+use Rattle.rebuild.proofs.Rebuilding.{decides-mended, decides-clean}
 use mathlib.Core.Path.{refl}
 use Rattle.decide.proofs.Solving.{is-solved, is-open}
 use native.Mathlib.Omega.{arith}
@@ -17,7 +19,7 @@ enum-told : tie.Need-enum-told
 enum-told c = search needs
 
 returns : tie.Need-returns
-returns c = decides-open _ _ _ (is-open _ _ _ _ _ _ (c .before .before .decide .ensures) (c .enum-told .given .1))
+returns c = undetermined (is-open _ _ _ _ _ _ (c .before .before .decide .ensures) (c .enum-told .given .1)) refl refl
 
 clean-or-not-requires : tie.Need-clean-or-not-requires
 clean-or-not-requires c κs =

@@ -53,9 +53,11 @@ loop-again : tie.Need-loop-again Inv-loop μ-loop
 loop-again c =
     let a = c .before .before .before .before .before .before .before .before .args in
     let turn = c .before .before .before .before .loop in
-    let own = withOwn (a .s .now) (a .places .now) (a .to) in
-    (omega arith, zero-more (λ t. own (a .at + t)) (c .before .before .block-at .result) 128 (turn .done) (omega arith) (turn .inv .1)
-    (zero-on own (a .at) _ 128 _ (c .before .is-sum-block2 .ensures) .yes (not-false _ (c .if2 .left))))
+    let own = withOwn (a .s .now) (a .places .now) (a .to) in (
+      omega arith,
+      zero-more (λ t. own (a .at + t)) (c .before .before .block-at .result) 128 (turn .done) (omega arith) (turn .inv .1)
+          (zero-on own (a .at) _ 128 _ (c .before .is-sum-block2 .ensures) .yes (not-false _ (c .if2 .left))),
+    )
 
 returns-3 : tie.Need-returns-3 Inv-loop μ-loop
 returns-3 c =

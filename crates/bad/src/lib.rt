@@ -1,0 +1,137 @@
+// The search for a bad column: the one whose replacement alone makes the stripe encoded. The call takes any numbers and any bytes: what can't be
+// done is refused by its number.
+ghost use mathlib.Core.Path.{_≡_};
+ghost use mathlib.Core.Bool.{true};
+ghost use Prim.Native.Nat.{_<_};
+ghost use lib.ListN.{length};
+ghost use Rattle.xor.specs.Runs.{Says};
+ghost use Rattle.codes.specs.Shape.{rows, columns, equations, stripeLength, WellFormed};
+ghost use Rattle.equation.specs.Window.{bytesAt, Window, failsIn};
+ghost use Rattle.bad.specs.Bad.{Replaceable, Finding, Finds};
+ghost use Rattle.bad.specs.Candidate.{TotalsOf, Without, Candidate};
+use codes::Shape;
+use decide::Decided;
+
+// What bad column answers: the stripe is encoded; the one column whose replacement makes it encoded; neither; or a refusal number.
+pub enum BadColumn {
+    Clean,
+    Column(usize),
+    Unexplained,
+    Refused(usize),
+}
+
+// The totals of all equations in byte t.
+fn totals_at(shape: Shape, stripe: &[u8], t: usize) -> [u8; 64]
+    requires { ⌜ WellFormed shape × (length (now stripe) ≡ stripeLength shape) × (t < shape .cell) ⌝ }
+    ensures { λ r. ⌜ TotalsOf shape (bytesAt shape (now (stripe .entry)) t) r ⌝ }
+{
+    let n = codes::equation_count(shape);
+    let mut totals = [0u8; 64];
+    let mut q = 0;
+    while q < n {
+        totals[q] = equation::total_byte(shape, stripe, q, t);
+        q += 1;
+    }
+    totals
+}
+
+// What is left of the totals when each cell of a column takes in the total of the first equation that holds it.
+// Where the column alone is wrong, that is how its cells differ from the right ones, and nothing is left.
+fn without_column(shape: Shape, totals: [u8; 64], column: usize) -> [u8; 64]
+    requires { ⌜ WellFormed shape × (column < columns shape) ⌝ }
+    ensures { λ r. ⌜ Without shape totals column (rows shape) r ⌝ }
+{
+    let equations = codes::equation_count(shape);
+    let rows = codes::row_count(shape);
+    let mut rest = totals;
+    let mut i = 0;
+    while i < rows {
+        let h = codes::holders_of(shape, i, column);
+        let first = h.first;
+        let second = h.second;
+        let x = totals[first];
+        rest[first] = rest[first] ^ x;
+        if second < equations {
+            rest[second] = rest[second] ^ x;
+        }
+        i += 1;
+    }
+    rest
+}
+
+// The first column without which nothing is left of the totals; the number of columns where there is none.
+fn candidate(shape: Shape, totals: [u8; 64]) -> usize
+    requires { ⌜ WellFormed shape ⌝ }
+    ensures { λ r. ⌜ Candidate shape totals r ⌝ }
+{
+    let columns = codes::column_count(shape);
+    let equations = codes::equation_count(shape);
+    let mut c = 0;
+    let found = 'columns: loop {
+        if c == columns {
+            break 'columns c;
+        }
+        let rest = without_column(shape, totals, c);
+        let mut q = 0;
+        while q < equations {
+            if rest[q] != 0 {
+                c += 1;
+                continue 'columns;
+            }
+            q += 1;
+        }
+        break 'columns c;
+    };
+    found
+}
+
+// Whether the replacement of one column alone makes the stripe encoded.
+fn column_agrees(shape: Shape, stripe: &[u8], column: usize) -> bool
+    requires { ⌜ WellFormed shape × (length (now stripe) ≡ stripeLength shape) × (column < columns shape) ⌝ }
+    ensures { λ r. ⌜ Says (Replaceable shape (now (stripe .entry)) column) r ⌝ }
+{
+    let map = decide::mark_columns(shape, column, column);
+    let mut listed = [0usize; 64];
+    let mut sets = [0u64; 64];
+    let mut checks = [0u64; 64];
+    let d = decide::decide(shape, map, &mut listed, &mut sets, &mut checks);
+    let Decided::Solved { lost: _, checks: v } = d else {
+        return false;
+    };
+    let mut lanes = [0u8; 32768];
+    survivors_agree(shape, stripe, &checks, v, &mut lanes)
+}
+
+// The bad column of a stripe in which equation q fails. At the first byte in which it does at most one column can explain what fails,
+// and that one is then held to the whole stripe.
+fn name_column(shape: Shape, stripe: &[u8], q: usize) -> BadColumn
+    requires { ⌜ WellFormed shape × (length (now stripe) ≡ stripeLength shape) × (q < equations shape) × (fails shape (now stripe) q ≡ true) ⌝ }
+    ensures { λ r. ⌜ Finding shape (now (stripe .entry)) r ⌝ }
+{
+    let t = failing_byte(shape, stripe, q);
+    let totals = totals_at(shape, stripe, t);
+    let c = candidate(shape, totals);
+    if c == codes::column_count(shape) {
+        return BadColumn::Unexplained;
+    }
+    if column_agrees(shape, stripe, c) {
+        return BadColumn::Column(c);
+    }
+    BadColumn::Unexplained
+}
+
+// Bad column: clean if the stripe is encoded; else the one column whose replacement alone makes it encoded; else unexplained.
+// It only reads. Refusals 1, 2, 4 and 5.
+pub fn bad_column(shape: Shape, stripe: &[u8]) -> BadColumn
+    ensures { λ r. ⌜ Finds shape (now (stripe .entry)) r ⌝ }
+{
+    let number = codes::stripe_refusal(shape, stripe.len());
+    if number != 0 {
+        return BadColumn::Refused(number);
+    }
+    let q = first_failing(shape, stripe);
+    if q == codes::equation_count(shape) {
+        return BadColumn::Clean;
+    }
+    name_column(shape, stripe, q)
+}

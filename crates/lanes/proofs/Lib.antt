@@ -1,0 +1,2 @@
+-- The laws of lanes: totals, sums of them, and lost cells mended.
+pub mod Lanes

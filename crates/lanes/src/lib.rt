@@ -1,0 +1,198 @@
+// Sums of equations in lanes: the totals of up to 512 bytes of each equation at a time, in lanes on the stack. By them survivors are
+// checked and lost cells are mended.
+ghost use mathlib.Core.Path.{_≡_};
+ghost use mathlib.Core.Bool.{true};
+ghost use Prim.Native.Nat.{ℕ, _+_, _*_, _≤_, _<_};
+ghost use lib.ListN.{length, getD};
+ghost use Rattle.xor.specs.Xor.{_⊕_};
+ghost use Rattle.xor.specs.Runs.{Put, Says};
+ghost use Rattle.bits.specs.Bit.{bit, Union};
+ghost use Rattle.codes.specs.Shape.{equations, stripeLength, WellFormed};
+ghost use Rattle.equation.specs.Window.{Window};
+ghost use Rattle.decide.specs.Solver.{Sets};
+ghost use Rattle.lanes.specs.Lanes.{laneSum, InLane, Totals, Passes, CellsIn, LanesOf, Filled, Mends};
+use codes::Shape;
+
+// Sets n bytes of the lane of each equation in a set to its total, from byte `at` of each cell on.
+fn put_totals(shape: Shape, stripe: &[u8], set: u64, at: usize, n: usize, lanes: &mut [u8])
+    requires { ⌜ InLane shape (now stripe) at n (now lanes) × ((r : ℕ) → bit r set ≡ true → r < equations shape) ⌝ }
+    ensures { λ _. ⌜ Totals shape (now (stripe .entry)) set at n (now (lanes .exit)) ⌝ }
+{
+    let mut members = [0usize; 64];
+    let count = bits::list_members(set, 1, &mut members);
+    let mut k = 0;
+    while k < count {
+        let q = members[k];
+        equation::put_total(shape, stripe, q, at, n, lanes, q * 512);
+        k += 1;
+    }
+}
+
+// Whether the lanes of a set sum to zero in n bytes.
+fn set_agrees(lanes: &[u8], set: u64, n: usize) -> bool
+    requires { ⌜ (length (now lanes) ≡ 32768) × (n ≤ 512) ⌝ }
+    ensures { λ r. ⌜ Says ((i : ℕ) → i < n → laneSum (now (lanes .entry)) set i ≡ 0) r ⌝ }
+{
+    let mut places = [0usize; 64];
+    let count = bits::list_members(set, 512, &mut places);
+    xor::sums_to_zero(lanes, &places[..count], n)
+}
+
+// Whether the lanes of each of the first v sets sum to zero in n bytes.
+fn lanes_agree(lanes: &[u8], checks: &[u64; 64], v: usize, n: usize) -> bool
+    requires { ⌜ (length (now lanes) ≡ 32768) × (n ≤ 512) × (v ≤ 64) × (length (now checks) ≡ 64) ⌝ }
+    ensures { λ r. ⌜ Says ((j : ℕ) → j < v → (i : ℕ) → i < n → laneSum (now (lanes .entry)) (getD (now (checks .entry)) j 0) i ≡ 0) r ⌝ }
+{
+    let mut j = 0;
+    while j < v {
+        if !set_agrees(lanes, checks[j], n) {
+            return false;
+        }
+        j += 1;
+    }
+    true
+}
+
+// How many bytes the lane has that starts after `done` of n bytes.
+fn lane_bytes(done: usize, n: usize) -> usize
+    requires { ⌜ done < n ⌝ }
+    ensures { λ r. ⌜ (1 ≤ r) × (r ≤ 512) × (done + r ≤ n) ⌝ }
+{
+    if n - done < 512 { n - done } else { 512 }
+}
+
+// Whether the survivors pass the checks in n bytes from `at` on; `set` is the union of the checks.
+fn lane_agrees(
+    shape: Shape,
+    stripe: &[u8],
+    checks: &[u64; 64],
+    v: usize,
+    set: u64,
+    at: usize,
+    n: usize,
+    lanes: &mut [u8],
+) -> bool
+    requires { ⌜ InLane shape (now stripe) at n (now lanes) × Sets shape v (now checks) × Union v (now checks) set ⌝ }
+    ensures { λ r. ⌜ Says ((i : ℕ) → i < n → Passes shape (now (stripe .entry)) v (now (checks .entry)) (at + i)) r × (length (now (lanes .exit)) ≡ 32768) ⌝ }
+{
+    put_totals(shape, stripe, set, at, n, lanes);
+    lanes_agree(lanes, checks, v, n)
+}
+
+// Whether the survivors pass the checks in n bytes from `at` on, lane by lane.
+pub fn survivors_agree(
+    shape: Shape,
+    stripe: &[u8],
+    checks: &[u64; 64],
+    v: usize,
+    at: usize,
+    n: usize,
+    lanes: &mut [u8],
+) -> bool
+    requires { ⌜ Window shape (now stripe) at n × Sets shape v (now checks) × (length (now lanes) ≡ 32768) ⌝ }
+    ensures { λ r. ⌜ Says ((i : ℕ) → i < n → Passes shape (now (stripe .entry)) v (now (checks .entry)) (at + i)) r × (length (now (lanes .exit)) ≡ 32768) ⌝ }
+{
+    let set = bits::union(checks, v);
+    let mut done = 0;
+    while done < n {
+        let m = lane_bytes(done, n);
+        if !lane_agrees(shape, stripe, checks, v, set, at + done, m, lanes) {
+            return false;
+        }
+        done += m;
+    }
+    true
+}
+
+// XORs the lanes of a set into n bytes of the stripe at `to`.
+fn add_lanes(stripe: &mut [u8], to: usize, lanes: &[u8], set: u64, n: usize)
+    requires { ⌜ (length (now lanes) ≡ 32768) × (n ≤ 512) × (to + n ≤ length (now stripe)) ⌝ }
+    ensures { λ _. ⌜ Put (now (stripe .entry)) to n (λ i. getD (now (stripe .entry)) (to + i) 0 ⊕ laneSum (now (lanes .entry)) set i) (now (stripe .exit)) ⌝ }
+{
+    let mut places = [0usize; 64];
+    let count = bits::list_members(set, 512, &mut places);
+    xor::add_sum(stripe, to, lanes, &places[..count], 0, n);
+}
+
+// XORs the lanes of its set into each of the first `lost` cells listed, in n bytes from `at` on.
+fn fill_cells(
+    shape: Shape,
+    stripe: &mut [u8],
+    lanes: &[u8],
+    listed: &[usize; 64],
+    sets: &[u64; 64],
+    lost: usize,
+    at: usize,
+    n: usize,
+)
+    requires { ⌜ InLane shape (now stripe) at n (now lanes) × Sets shape lost (now sets) × CellsIn shape lost (now listed) × LanesOf shape (now stripe) lost (now sets) at n (now lanes) ⌝ }
+    ensures { λ _. ⌜ Filled shape (now (listed .entry)) (now (sets .entry)) lost at (at + n) (now (stripe .entry)) (now (stripe .exit)) ⌝ }
+{
+    let mut k = 0;
+    while k < lost {
+        add_lanes(stripe, listed[k] * shape.cell + at, lanes, sets[k], n);
+        k += 1;
+    }
+}
+
+// Mends the lost cells in n bytes from `at` on; `set` is the union of their sets.
+fn fill_lane(
+    shape: Shape,
+    stripe: &mut [u8],
+    listed: &[usize; 64],
+    sets: &[u64; 64],
+    lost: usize,
+    set: u64,
+    at: usize,
+    n: usize,
+    lanes: &mut [u8],
+)
+    requires { ⌜ InLane shape (now stripe) at n (now lanes) × Sets shape lost (now sets) × CellsIn shape lost (now listed) × Union lost (now sets) set ⌝ }
+    ensures { λ _. ⌜ Filled shape (now (listed .entry)) (now (sets .entry)) lost at (at + n) (now (stripe .entry)) (now (stripe .exit)) × (length (now (lanes .exit)) ≡ 32768) ⌝ }
+{
+    put_totals(shape, stripe, set, at, n, lanes);
+    fill_cells(shape, stripe, lanes, listed, sets, lost, at, n);
+}
+
+// Mends the lost cells.
+fn fill(
+    shape: Shape,
+    stripe: &mut [u8],
+    listed: &[usize; 64],
+    sets: &[u64; 64],
+    lost: usize,
+    lanes: &mut [u8],
+)
+    requires { ⌜ WellFormed shape × (length (now stripe) ≡ stripeLength shape) × Sets shape lost (now sets) × CellsIn shape lost (now listed) × (length (now lanes) ≡ 32768) ⌝ }
+    ensures { λ _. ⌜ Filled shape (now (listed .entry)) (now (sets .entry)) lost 0 (shape .cell) (now (stripe .entry)) (now (stripe .exit)) ⌝ }
+{
+    let set = bits::union(sets, lost);
+    let cell = shape.cell;
+    let mut at = 0;
+    while at < cell {
+        let n = lane_bytes(at, cell);
+        fill_lane(shape, stripe, listed, sets, lost, set, at, n, lanes);
+        at += n;
+    }
+}
+
+// Mends the lost cells once the survivors are known to agree: 0, or 12 where they don't, with every byte as it was.
+pub fn mend(
+    shape: Shape,
+    stripe: &mut [u8],
+    listed: &[usize; 64],
+    sets: &[u64; 64],
+    lost: usize,
+    checks: &[u64; 64],
+    v: usize,
+) -> usize
+    requires { ⌜ WellFormed shape × (length (now stripe) ≡ stripeLength shape) × Sets shape lost (now sets) × CellsIn shape lost (now listed) × Sets shape v (now checks) ⌝ }
+    ensures { λ r. ⌜ Mends shape (now (listed .entry)) (now (sets .entry)) lost (now (checks .entry)) v (now (stripe .entry)) r (now (stripe .exit)) ⌝ }
+{
+    let mut lanes = [0u8; 32768];
+    if !survivors_agree(shape, stripe, checks, v, 0, shape.cell, &mut lanes) {
+        return 12;
+    }
+    fill(shape, stripe, listed, sets, lost, &mut lanes);
+    0
+}
