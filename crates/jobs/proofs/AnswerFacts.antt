@@ -12,7 +12,7 @@ use Rattle.rebuild.specs.Survivors.{Undetermined, Restores}
 use Rattle.rebuild.specs.Rebuild.{named, RebuildsCells}
 use Rattle.rebuild.proofs.Calls.{decided-long}
 use Rattle.rebuild.proofs.Facts.{cells-come-back}
-use Rattle.jobs.specs.Format.{mostStripe, noJobAnswer, Job, jobBytes, Fits, shapeOf, answerBytes}
+use Rattle.jobs.specs.Format.{mostStripe, noJobRefusal, Job, jobBytes, Fits, shapeOf, answerBytes}
 use Rattle.jobs.specs.Answer.{Answers, carried, noJob, AnswersInto}
 use Rattle.jobs.proofs.Storing.{length-done, length-refused}
 use Rattle.jobs.proofs.OneAnswer.{carried-this}
@@ -33,7 +33,7 @@ output-most : (input output : List ℕ) → Answers input output → length outp
 output-most input output (carried j fits _ c) =
     let long = same-long (shapeOf j) (j .lost) (j .stripe) (c .answer) (c .stripe) (c .rebuilds) in
     omega (arith, ap (λ (x : List ℕ). length x) (c .says), bytes-most (c .answer) (c .stripe) (omega (arith, fits .short)))
-output-most input output (noJob _ says) = omega (arith, ap (λ (x : List ℕ). length x) says, bytes-most noJobAnswer [] (omega arith))
+output-most input output (noJob _ says) = omega (arith, ap (λ (x : List ℕ). length x) says, bytes-most noJobRefusal [] (omega arith))
 
 pub answer-longest : (input old : List ℕ) (size : ℕ) (new : List ℕ) → AnswersInto input old size new → size ≤ 7 + mostStripe
 answer-longest input old size new h = omega (arith, h .put .long, output-most input (h .output) (h .answers))

@@ -12,7 +12,7 @@ use Rattle.codes.specs.declared.Shape.{Shape}
 use Rattle.codes.specs.Refusals.{Fault, order, applies, firstOf, refusal, cellsFaults}
 use Rattle.rebuild.specs.Rebuild.{RebuildsCells}
 use Rattle.jobs.specs.declared.Fields.{Fields}
-use Rattle.jobs.specs.Format.{mostStripe, noJobAnswer, Job, jobBytes, Fits, shapeOf, answerBytes}
+use Rattle.jobs.specs.Format.{mostStripe, noJobRefusal, Job, jobBytes, Fits, shapeOf, answerBytes}
 use Rattle.jobs.specs.Reading.{Holds}
 use Rattle.jobs.specs.Answer.{carried, noJob, PutInto, AnswersInto}
 use Rattle.jobs.specs.Carrying.{Lists, Stored}
@@ -85,5 +85,5 @@ answers-job input old f j h answer size stripe new r w = record {
   put = w;
 }
 
-pub answers-none : (input old : List ℕ) → ((j : Job) → Fits j → jobBytes j ≡ input → ⊥) → (size : ℕ) (new : List ℕ) → PutInto (answerBytes noJobAnswer []) old size new → AnswersInto input old size new
-answers-none input old none size new w = record { output = answerBytes noJobAnswer []; answers = noJob none refl; put = w }
+pub answers-none : (input old : List ℕ) → ((j : Job) → Fits j → jobBytes j ≡ input → ⊥) → (size : ℕ) (new : List ℕ) → PutInto (answerBytes noJobRefusal []) old size new → AnswersInto input old size new
+answers-none input old none size new w = record { output = answerBytes noJobRefusal []; answers = noJob none refl; put = w }

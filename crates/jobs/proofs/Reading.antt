@@ -6,8 +6,10 @@ use native.Mathlib.Omega.{arith}
 use lib.ListN.{length, getD, take, drop, length-drop, drop-of-length-le}
 use Rattle.xor.proofs.Runs.{part-long}
 use Rattle.codes.specs.declared.Shape.{Shape}
+use Rattle.jobs.specs.declared.Content.the-variants.{Missing}
+use Rattle.jobs.specs.declared.Tail.the-variants.{NoEnd}
 use Rattle.jobs.specs.Format.{mostLost, mostStripe, absentCell, twoBytes, field, numbers, CellSize, absent, given, Job, cellField, jobBytes, Fits}
-use Rattle.jobs.specs.Places.{FieldAt, Begins, Ends}
+use Rattle.jobs.specs.Places.{FieldAt, FindsField, Begins, Ends, FindsTail}
 use Rattle.jobs.specs.Reading.{Holds}
 use Rattle.jobs.proofs.Bytes.{same-field, length-numbers, even-numbers}
 use Rattle.jobs.proofs.Places.{part-bytes, byte-field, LiesAt, lies, one-length}
@@ -64,6 +66,10 @@ module _ (input : List ℕ) (first : FieldAt input 0 1 1) (second : FieldAt inpu
     is = begin;
     rest = λ j f. after-absent input (second .inside) none (j .cell) _ _ (after-p input j f);
   }
+
+-- where field 04 is missing there is no end of a job
+pub no-lost : (input : List ℕ) (at : ℕ) → FindsField input at 4 (2 * mostLost) Missing → FindsTail input at NoEnd
+no-lost input at none m n e = none (2 * m) (omega (arith, e .few)) (e .lost)
 
 module _ (input : List ℕ) (at k n : ℕ) (lost : FieldAt input at 4 k) where
   -- fields 04 and 05 that were found within the limits, and the end of the input after them

@@ -4,20 +4,21 @@ use Prim.Native.Nat.{ℕ, zero, suc, _/_, _%_, _≤_}
 use lib.ListN.{length}
 use Rattle.codes.specs.declared.Shape.{Shape}
 
--- how many lost cell numbers and how many bytes of stripe a job may have
+-- how many lost cell numbers a job may have
 abbrev pub mostLost : ℕ
 mostLost = 2048
 
+-- how many bytes of stripe
 abbrev pub mostStripe : ℕ
 mostStripe = 32768
 
--- the cell size of a job that does not say it
+-- the cell size of a job without field 03
 abbrev pub absentCell : ℕ
 absentCell = 512
 
--- what bytes that are no job's are answered
-abbrev pub noJobAnswer : ℕ
-noJobAnswer = 13
+-- the refusal of bytes that are no job's
+abbrev pub noJobRefusal : ℕ
+noJobRefusal = 13
 
 -- a number in two bytes, high byte first
 unfoldable pub twoBytes : ℕ → List ℕ

@@ -9,18 +9,19 @@ ghost use Rattle.jobs.specs.Carrying.{Lists, Rebuilt, Stored};
 ghost use Rattle.jobs.specs.Answer.{PutInto, AnswersInto};
 use codes::Shape;
 
-// How many lost cell numbers a job may have, and how many bytes they take.
+// How many lost cell numbers a job may have.
 const MOST_LOST: usize = 2048;
 
+// How many bytes they take, two each.
 const MOST_LOST_BYTES: usize = 2 * MOST_LOST;
 
 // How many bytes of stripe a job may have.
 const MOST_STRIPE: usize = 32768;
 
-// The cell size of a job that does not say it.
+// The cell size of a job without field 03.
 const ABSENT_CELL: usize = 512;
 
-// What bytes that are no job's are answered.
+// The refusal of bytes that are no job's.
 const NO_JOB: usize = 13;
 
 // What looking for a field at a place finds: how many bytes of content it has, or that it isn't there.
@@ -125,7 +126,7 @@ fn read_numbers(input: &[u8]) -> Numbers
     }
 }
 
-// Reads field 04 at a place, numbers of two bytes each, then field 05 and the end of the input.
+// Reads field 04 at a place, with numbers of two bytes each, then field 05, then the end of the input.
 fn read_tail(input: &[u8], at: usize) -> Tail
     requires { ⌜ at ≤ length (now input) ⌝ }
     ensures { λ r. ⌜ FindsTail (now (input .entry)) at r ⌝ }

@@ -5,7 +5,7 @@ use native.Mathlib.Omega.{arith}
 use Rattle.jobs.specs.Format.{mostLost, mostStripe}
 use Rattle.jobs.specs.Places.{FieldAt, FindsField}
 use Rattle.jobs.proofs.Places.{one-length}
-use Rattle.jobs.proofs.Reading.{ends, same-lost, stripe-after}
+use Rattle.jobs.proofs.Reading.{no-lost, ends, same-lost, stripe-after}
 use borrow.Author.Needs.{needs}
 use Rattle.jobs.proofs.read_tail.Statement.{statement}
 use Rattle.jobs.proofs.read_tail.Tie as tie
@@ -29,7 +29,7 @@ stripe : (c : tie.After-bytes) → let a = c .before .before .before .before .be
 stripe c = subst (FindsField _ _ _ _) (c .bytes .given .1) (c .before .before .find-field2 .ensures)
 
 returns : tie.Need-returns
-returns c = λ m n e. subst (FindsField _ _ _ _) (c .enum-told .given .1) (c .before .before .find-field .ensures) (2 * m) (omega (arith, e .few)) (e .lost)
+returns c = no-lost _ _ (subst (FindsField _ _ _ _) (c .enum-told .given .1) (c .before .before .find-field .ensures))
 
 returns-2 : tie.Need-returns-2
 returns-2 c = λ m n e. omega (arith, same-lost _ _ _ n (lost (c .before .before) .0) m e)
