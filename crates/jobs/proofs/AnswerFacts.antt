@@ -1,7 +1,7 @@
 -- What follows from the job's contract: the longest answer, and a stripe that comes back.
 use mathlib.Core.Path.{_≡_, refl, sym, ap, ap₂, _∙_}
 use mathlib.Core.List.{List, []}
-use Prim.Native.Nat.{ℕ, _≤_}
+use Prim.Native.Nat.{ℕ, _+_, _≤_}
 use native.Mathlib.Omega.{arith}
 use lib.ListN.{length, drop, length-append}
 use Rattle.xor.proofs.Cases.{by-equal}
@@ -12,7 +12,7 @@ use Rattle.decide.specs.Survivors.{Undetermined, Restores, named}
 use Rattle.rebuild.specs.Rebuild.{RebuildsCells}
 use Rattle.rebuild.proofs.Calls.{decided-long}
 use Rattle.rebuild.proofs.Facts.{cells-come-back}
-use Rattle.jobs.specs.Format.{Job, jobBytes, Fits, shapeOf, answerBytes}
+use Rattle.jobs.specs.Format.{mostStripe, noJobRefusal, Job, jobBytes, Fits, shapeOf, answerBytes}
 use Rattle.jobs.specs.Answer.{Answers, carried, noJob, AnswersInto}
 use Rattle.jobs.proofs.Storing.{length-done, length-refused}
 use Rattle.jobs.proofs.OneAnswer.{carried-this}
@@ -26,20 +26,20 @@ same-long s lost old answer new r =
     (λ e. decided-long s (named lost) old answer new (cells-accepted s (length old) lost e .1) (r .decides e, r .kept))
     (λ n. ap (λ (x : List ℕ). length x) (r .kept (λ z. n (sym (r .refused n) ∙ z))))
 
-bytes-most : (answer : ℕ) (stripe : List ℕ) → length stripe ≤ 32768 → length (answerBytes answer stripe) ≤ 32775
+bytes-most : (answer : ℕ) (stripe : List ℕ) → length stripe ≤ mostStripe → length (answerBytes answer stripe) ≤ 7 + mostStripe
 bytes-most answer stripe l = by-equal answer 0 (λ e. omega (arith, length-done answer stripe e)) (λ n. omega (arith, length-refused answer stripe n))
 
-output-most : (input output : List ℕ) → Answers input output → length output ≤ 32775
+output-most : (input output : List ℕ) → Answers input output → length output ≤ 7 + mostStripe
 output-most input output (carried j fits _ c) =
     let long = same-long (shapeOf j) (j .lost) (j .stripe) (c .answer) (c .stripe) (c .rebuilds) in
     omega (arith, ap (λ (x : List ℕ). length x) (c .says), bytes-most (c .answer) (c .stripe) (omega (arith, fits .short)))
-output-most input output (noJob _ says) = omega (arith, ap (λ (x : List ℕ). length x) says, bytes-most 13 [] (omega arith))
+output-most input output (noJob _ says) = omega (arith, ap (λ (x : List ℕ). length x) says, bytes-most noJobRefusal [] (omega arith))
 
-pub answer-longest : (input old : List ℕ) (size : ℕ) (new : List ℕ) → AnswersInto input old size new → size ≤ 32775
+pub answer-longest : (input old : List ℕ) (size : ℕ) (new : List ℕ) → AnswersInto input old size new → size ≤ 7 + mostStripe
 answer-longest input old size new h = omega (arith, h .put .long, output-most input (h .output) (h .answers))
 
 -- bytes as many as these have room for it
-pub answer-inside : (input old : List ℕ) (size : ℕ) (new : List ℕ) → AnswersInto input old size new → length old ≡ 32775 → size ≤ length new
+pub answer-inside : (input old : List ℕ) (size : ℕ) (new : List ℕ) → AnswersInto input old size new → length old ≡ 7 + mostStripe → size ≤ length new
 answer-inside input old size new h long =
     let most = answer-longest input old size new h in
     omega (arith, h .put .long, ap (λ (x : List ℕ). length x) (h .put .room (omega arith)), length-append (h .output) (drop size old))

@@ -12,7 +12,7 @@ use Rattle.codes.specs.declared.Shape.{Shape}
 use Rattle.codes.specs.Refusals.{Fault, order, applies, firstOf, refusal, cellsFaults}
 use Rattle.rebuild.specs.Rebuild.{RebuildsCells}
 use Rattle.jobs.specs.declared.Fields.{Fields}
-use Rattle.jobs.specs.Format.{Job, jobBytes, Fits, shapeOf, answerBytes}
+use Rattle.jobs.specs.Format.{mostStripe, noJobRefusal, Job, jobBytes, Fits, shapeOf, answerBytes}
 use Rattle.jobs.specs.Reading.{Holds}
 use Rattle.jobs.specs.Answer.{carried, noJob, PutInto, AnswersInto}
 use Rattle.jobs.specs.Carrying.{Lists, Stored}
@@ -21,18 +21,15 @@ use Rattle.jobs.proofs.Storing.{stored-all}
 
 -- ---- what the rebuild works on
 
-pub rebuilt : (input : List ℕ) (f : Fields) (j : Job) → Holds input j f → (s : Shape) (blank copy list : List ℕ) (bytes answer : ℕ) (new : List ℕ)
-    → s .code ≡ f .code → s .p ≡ f .p → s .cell ≡ f .cell → bytes ≡ f .«stripe_bytes» → length blank ≡ f .«stripe_bytes»
+pub rebuilt : (input : List ℕ) (f : Fields) (j : Job) → Holds input j f → (blank copy list : List ℕ) (bytes answer : ℕ) (new : List ℕ)
+    → bytes ≡ f .«stripe_bytes» → length blank ≡ f .«stripe_bytes»
     → Stored blank 0 (take bytes (drop (f .«stripe_at») input)) copy → Lists input (f .«lost_at») (f .«lost_count») list
-    → RebuildsCells s (take (f .«lost_count») list) copy answer new → RebuildsCells (shapeOf j) (j .lost) (j .stripe) answer new
-rebuilt input f j h s blank copy list bytes answer new code p cell all long stored lists r =
+    → RebuildsCells (f .shape) (take (f .«lost_count») list) copy answer new → RebuildsCells (shapeOf j) (j .lost) (j .stripe) answer new
+rebuilt input f j h blank copy list bytes answer new all long stored lists r =
     subst (λ (x : List ℕ). RebuildsCells (shapeOf j) (j .lost) x answer new) stripe
     (subst (λ (x : List ℕ). RebuildsCells (shapeOf j) x copy answer new) lost
-    (subst (λ (x : Shape). RebuildsCells x (take (f .«lost_count») list) copy answer new) shape r))
+    (subst (λ (x : Shape). RebuildsCells x (take (f .«lost_count») list) copy answer new) (h .shape) r))
   where
-    shape : s ≡ shapeOf j
-    shape i = record { code = (code ∙ h .code) i; p = (p ∙ h .p) i; cell = (cell ∙ h .cell) i }
-
     lost : take (f .«lost_count») list ≡ j .lost
     lost = same-numbers (take (f .«lost_count») list) (j .lost) (lists .says ∙ sym (h .lost))
 
@@ -43,11 +40,11 @@ rebuilt input f j h s blank copy list bytes answer new code p cell all long stor
     stripe = stored-all blank (take bytes (drop (f .«stripe_at») input)) copy (long ∙ h .bytes ∙ ap (λ (x : List ℕ). length x) (sym part)) stored ∙ part
 
 -- room for the longest stripe, of which a part is lent
-pub space-enough : (n : ℕ) → n ≤ 32768 → n ≤ length (replicate {A = ℕ} 32768 0)
-space-enough n l = omega (arith, length-replicate {A = ℕ} 32768 0)
+pub space-enough : (n : ℕ) → n ≤ mostStripe → n ≤ length (replicate {A = ℕ} mostStripe 0)
+space-enough n l = omega (arith, length-replicate {A = ℕ} mostStripe 0)
 
-pub space-taken : (n : ℕ) → n ≤ 32768 → length (take n (replicate {A = ℕ} 32768 0)) ≡ n
-space-taken n l = length-take-le n (replicate {A = ℕ} 32768 0) (space-enough n l)
+pub space-taken : (n : ℕ) → n ≤ mostStripe → length (take n (replicate {A = ℕ} mostStripe 0)) ≡ n
+space-taken n l = length-take-le n (replicate {A = ℕ} mostStripe 0) (space-enough n l)
 
 -- ---- an answer is one byte
 
@@ -88,5 +85,5 @@ answers-job input old f j h answer size stripe new r w = record {
   put = w;
 }
 
-pub answers-none : (input old : List ℕ) → ((j : Job) → Fits j → jobBytes j ≡ input → ⊥) → (size : ℕ) (new : List ℕ) → PutInto (answerBytes 13 []) old size new → AnswersInto input old size new
-answers-none input old none size new w = record { output = answerBytes 13 []; answers = noJob none refl; put = w }
+pub answers-none : (input old : List ℕ) → ((j : Job) → Fits j → jobBytes j ≡ input → ⊥) → (size : ℕ) (new : List ℕ) → PutInto (answerBytes noJobRefusal []) old size new → AnswersInto input old size new
+answers-none input old none size new w = record { output = answerBytes noJobRefusal []; answers = noJob none refl; put = w }

@@ -6,7 +6,7 @@ use native.Mathlib.Numerals.{add-one}
 use native.Mathlib.Omega.{arith}
 use lib.ListN.{length, set, take, drop, length-set}
 use lib.Seq.{take-suc-set, take-add, drop-drop}
-use Rattle.jobs.specs.Format.{twoBytes, numbers}
+use Rattle.jobs.specs.Format.{mostLost, twoBytes, numbers}
 use Rattle.jobs.specs.Carrying.{Lists}
 
 numbers-both : (xs ys : List ℕ) → numbers (xs ++ ys) ≡ numbers xs ++ numbers ys
@@ -14,12 +14,12 @@ unfolding numbers twoBytes
 numbers-both [] ys = refl
 numbers-both (x ∷ xs) ys = ap (λ (r : List ℕ). x / 256 ∷ x % 256 ∷ r) (numbers-both xs ys)
 
-pub lists-none : (input list : List ℕ) (at : ℕ) → length list ≡ 2048 → Lists input at 0 list
+pub lists-none : (input list : List ℕ) (at : ℕ) → length list ≡ mostLost → Lists input at 0 list
 unfolding numbers
 lists-none input list at long = record { long = long; says = refl }
 
 -- the number at place k is read
-pub lists-more : (input list : List ℕ) (at k n : ℕ) → k < 2048 → Lists input at k list → twoBytes n ≡ take 2 (drop (at + 2 * k) input) → Lists input at (k + 1) (set list k n)
+pub lists-more : (input list : List ℕ) (at k n : ℕ) → k < mostLost → Lists input at k list → twoBytes n ≡ take 2 (drop (at + 2 * k) input) → Lists input at (k + 1) (set list k n)
 unfolding numbers twoBytes
 lists-more input list at k n l before here = record {
   long = length-set list k n ∙ before .long;

@@ -4,7 +4,7 @@ use mathlib.Core.List.{List, [], _++_}
 use Prim.Native.Nat.{ℕ, _≤_, _<_}
 use lib.ListN.{length, drop}
 use Rattle.rebuild.specs.Rebuild.{RebuildsCells}
-use Rattle.jobs.specs.Format.{Job, Fits, jobBytes, shapeOf, answerBytes}
+use Rattle.jobs.specs.Format.{noJobRefusal, Job, Fits, jobBytes, shapeOf, answerBytes}
 
 -- the output is the answer to job j: what the rebuild of its lost cells answers, and after 0 the stripe that it leaves
 pub record Carried (j : Job) (output : List ℕ) : Type 0 where
@@ -13,10 +13,10 @@ pub record Carried (j : Job) (output : List ℕ) : Type 0 where
   pub rebuilds : RebuildsCells (shapeOf j) (j .lost) (j .stripe) answer stripe
   pub says : output ≡ answerBytes answer stripe
 
--- the output is the answer to the input: to the job whose bytes these are; or 13 where they are no job's
+-- the output is the answer to the input: to the job whose bytes these are; or noJobRefusal where they are no job's
 pub data Answers (input output : List ℕ) : Type 0 where
   carried : (j : Job) → Fits j → jobBytes j ≡ input → Carried j output → Answers input output
-  noJob : ((j : Job) → Fits j → jobBytes j ≡ input → ⊥) → output ≡ answerBytes 13 [] → Answers input output
+  noJob : ((j : Job) → Fits j → jobBytes j ≡ input → ⊥) → output ≡ answerBytes noJobRefusal [] → Answers input output
 
 -- size is how many bytes there are; where the lent bytes have room for them they begin with them and go on as they were, else they are as they were
 pub record PutInto (bytes old : List ℕ) (size : ℕ) (new : List ℕ) : Type 0 where

@@ -6,12 +6,12 @@ use lib.ListN.{length, getD, take, drop}
 use Rattle.xor.specs.Runs.{Put}
 use Rattle.rebuild.specs.Rebuild.{RebuildsCells}
 use Rattle.jobs.specs.declared.Fields.{Fields}
-use Rattle.jobs.specs.Format.{Job, numbers, shapeOf}
+use Rattle.jobs.specs.Format.{mostLost, Job, numbers, shapeOf}
 use Rattle.jobs.specs.Reading.{Holds}
 
 -- the first numbers of the list, as many as count says, are those in the input from `at` on
 pub record Lists (input : List ℕ) (at count : ℕ) (list : List ℕ) : Type 0 where
-  pub long : length list ≡ 2048
+  pub long : length list ≡ mostLost
   pub says : numbers (take count list) ≡ take (2 * count) (drop at input)
 
 -- what the rebuild of the lost cells answers for the job whose fields these are, and the stripe that it leaves

@@ -4,6 +4,22 @@ use Prim.Native.Nat.{ℕ, zero, suc, _/_, _%_, _≤_}
 use lib.ListN.{length}
 use Rattle.codes.specs.declared.Shape.{Shape}
 
+-- how many lost cell numbers a job may have
+abbrev pub mostLost : ℕ
+mostLost = 2048
+
+-- how many bytes of stripe
+abbrev pub mostStripe : ℕ
+mostStripe = 32768
+
+-- the cell size of a job without field 03
+abbrev pub absentCell : ℕ
+absentCell = 512
+
+-- the refusal of bytes that are no job's
+abbrev pub noJobRefusal : ℕ
+noJobRefusal = 13
+
 -- a number in two bytes, high byte first
 unfoldable pub twoBytes : ℕ → List ℕ
 twoBytes n = n / 256 ∷ n % 256 ∷ []
@@ -35,19 +51,19 @@ abbrev pub cellField : CellSize → List ℕ
 cellField absent = []
 cellField (given n) = field 3 (twoBytes n)
 
--- the cell size of a job: 512 where it is absent
+-- the cell size of a job
 abbrev pub cellSize : CellSize → ℕ
-cellSize absent = 512
+cellSize absent = absentCell
 cellSize (given n) = n
 
 -- the bytes of a job: its fields in this order, once each, and nothing after them
 unfoldable pub jobBytes : Job → List ℕ
 jobBytes j = field 1 (j .code ∷ []) ++ (field 2 (j .p ∷ []) ++ (cellField (j .cell) ++ (field 4 (numbers (j .lost)) ++ field 5 (j .stripe))))
 
--- a job keeps the limits: at most 2,048 lost cell numbers and 32,768 bytes of stripe
+-- a job keeps the limits
 pub record Fits (j : Job) : Type 0 where
-  pub few : length (j .lost) ≤ 2048
-  pub short : length (j .stripe) ≤ 32768
+  pub few : length (j .lost) ≤ mostLost
+  pub short : length (j .stripe) ≤ mostStripe
 
 -- the shape of a job's stripe
 abbrev pub shapeOf : Job → Shape

@@ -1,50 +1,60 @@
 // A rebuild job as a function on bytes: its fields are read, the lost cells rebuilt, and the answer's fields written.
 ghost use mathlib.Core.Path.{_≡_};
-ghost use mathlib.Core.Bool.{false};
 ghost use Prim.Native.Nat.{_+_, _*_, _≤_, _<_};
 ghost use lib.ListN.{length, take, drop};
-ghost use Rattle.jobs.specs.Format.{twoBytes, Job, field, answerBytes};
+ghost use Rattle.jobs.specs.Format.{mostLost, mostStripe, twoBytes, Job, field, answerBytes};
 ghost use Rattle.jobs.specs.Places.{HasField, FindsField, FindsNumbers, FindsTail};
 ghost use Rattle.jobs.specs.Reading.{Holds, Reads};
 ghost use Rattle.jobs.specs.Carrying.{Lists, Rebuilt, Stored};
 ghost use Rattle.jobs.specs.Answer.{PutInto, AnswersInto};
 use codes::Shape;
 
-// A field that was looked for at a place: whether it is there, how many bytes of content it has, and where in the bytes it ends.
-// One that isn't there has no bytes and ends where it was looked for.
-struct Content {
-    found: bool,
-    bytes: usize,
-    next: usize,
+// How many lost cell numbers a job may have.
+const MOST_LOST: usize = 2048;
+
+// How many bytes they take, two each.
+const MOST_LOST_BYTES: usize = 2 * MOST_LOST;
+
+// How many bytes of stripe a job may have.
+const MOST_STRIPE: usize = 32768;
+
+// The cell size of a job without field 03.
+const ABSENT_CELL: usize = 512;
+
+// The refusal of bytes that are no job's.
+const NO_JOB: usize = 13;
+
+// What looking for a field at a place finds: how many bytes of content it has, or that it isn't there.
+enum Content {
+    There(usize),
+    Missing,
 }
 
-// The numbers that a job begins with: whether they are there, code, p and cell size, and where in the bytes the next field starts.
-struct Numbers {
-    found: bool,
-    code: usize,
-    p: usize,
-    cell: usize,
-    next: usize,
+// What reading finds at the start of the input: the shape that a job's numbers give and where the next field starts, or no job's numbers.
+enum Numbers {
+    Begin { shape: Shape, next: usize },
+    NoBegin,
 }
 
-// The end of a job, fields 04 and 05: whether they are there, how many lost cell numbers they hold, and how many bytes of stripe.
-struct Tail {
-    found: bool,
-    count: usize,
-    bytes: usize,
+// What reading finds for fields 04 and 05: how many lost cell numbers they hold and how many bytes of stripe, or no end of a job.
+enum Tail {
+    End { count: usize, bytes: usize },
+    NoEnd,
 }
 
-// What reading a job finds: whether the bytes are a job's, its three numbers, and where in the bytes the lost cell numbers and the stripe
-// start and how many of them there are. Where they are no job's all other fields are 0.
+// The shape of a job's stripe, and where in the bytes the lost cell numbers and the stripe start and how many of them there are.
 struct Fields {
-    is_job: bool,
-    code: usize,
-    p: usize,
-    cell: usize,
+    shape: Shape,
     lost_at: usize,
     lost_count: usize,
     stripe_at: usize,
     stripe_bytes: usize,
+}
+
+// What reading finds: a job's fields, or that the bytes are no job's.
+enum Found {
+    Lies(Fields),
+    NoJob,
 }
 
 // The number in the two bytes at a place, high byte first.
@@ -57,17 +67,6 @@ fn two_bytes(input: &[u8], at: usize) -> usize
     high * 256 + low
 }
 
-// A field that isn't there.
-fn no_field(at: usize) -> Content
-    ensures { λ r. ⌜ r .found ≡ false ⌝ }
-{
-    Content {
-        found: false,
-        bytes: 0,
-        next: at,
-    }
-}
-
 // Looks at a place for a field with this tag and at most so many bytes of content, which start three bytes on and end within the input.
 fn find_field(input: &[u8], at: usize, tag: u8, most: usize) -> Content
     requires { ⌜ at ≤ length (now input) ⌝ }
@@ -75,23 +74,19 @@ fn find_field(input: &[u8], at: usize, tag: u8, most: usize) -> Content
 {
     let left = input.len() - at;
     if left < 3 {
-        return no_field(at);
+        return Content::Missing;
     }
     if input[at] != tag {
-        return no_field(at);
+        return Content::Missing;
     }
     let bytes = two_bytes(input, at + 1);
     if most < bytes {
-        return no_field(at);
+        return Content::Missing;
     }
     if left - 3 < bytes {
-        return no_field(at);
+        return Content::Missing;
     }
-    Content {
-        found: true,
-        bytes: bytes,
-        next: at + 3 + bytes,
-    }
+    Content::There(bytes)
 }
 
 // Whether a field with this tag and so many bytes of content starts at a place.
@@ -99,140 +94,88 @@ fn has_field(input: &[u8], at: usize, tag: u8, bytes: usize) -> bool
     requires { ⌜ at ≤ length (now input) ⌝ }
     ensures { λ r. ⌜ HasField (now (input .entry)) at tag bytes r ⌝ }
 {
-    let content = find_field(input, at, tag, bytes);
-    if content.found {
-        content.bytes == bytes
-    } else {
-        false
+    match find_field(input, at, tag, bytes) {
+        Content::There(n) => n == bytes,
+        Content::Missing => false,
     }
 }
 
-// What reading finds where the input does not begin with a job's numbers.
-fn no_numbers() -> Numbers
-    ensures { λ r. ⌜ r .found ≡ false ⌝ }
-{
-    Numbers {
-        found: false,
-        code: 0,
-        p: 0,
-        cell: 0,
-        next: 0,
-    }
-}
-
-// Reads fields 01, 02 and 03 at the start of the input. A cell size that is absent is 512.
+// Reads fields 01, 02 and 03 at the start of the input. Field 03 may be absent.
 fn read_numbers(input: &[u8]) -> Numbers
     ensures { λ r. ⌜ FindsNumbers (now (input .entry)) r ⌝ }
 {
     if !has_field(input, 0, 1, 1) {
-        return no_numbers();
+        return Numbers::NoBegin;
     }
     if !has_field(input, 4, 2, 1) {
-        return no_numbers();
+        return Numbers::NoBegin;
     }
     let code = input[3] as usize;
     let p = input[7] as usize;
     if has_field(input, 8, 3, 2) {
         let cell = two_bytes(input, 11);
-        Numbers {
-            found: true,
-            code: code,
-            p: p,
-            cell: cell,
-            next: 13,
-        }
+        let shape = Shape { code, p, cell };
+        Numbers::Begin { shape, next: 13 }
     } else {
-        Numbers {
-            found: true,
-            code: code,
-            p: p,
-            cell: 512,
-            next: 8,
-        }
+        let shape = Shape {
+            code,
+            p,
+            cell: ABSENT_CELL,
+        };
+        Numbers::Begin { shape, next: 8 }
     }
 }
 
-// What reading finds where the input does not go on with the end of a job.
-fn no_tail() -> Tail
-    ensures { λ r. ⌜ r .found ≡ false ⌝ }
-{
-    Tail {
-        found: false,
-        count: 0,
-        bytes: 0,
-    }
-}
-
-// Reads field 04 with at most 2,048 numbers of two bytes each at a place, then field 05 with at most 32,768 bytes, then the end of the input.
+// Reads field 04 at a place, with numbers of two bytes each, then field 05, then the end of the input.
 fn read_tail(input: &[u8], at: usize) -> Tail
     requires { ⌜ at ≤ length (now input) ⌝ }
     ensures { λ r. ⌜ FindsTail (now (input .entry)) at r ⌝ }
 {
-    let lost = find_field(input, at, 4, 4096);
-    if !lost.found {
-        return no_tail();
+    let Content::There(lost) = find_field(input, at, 4, MOST_LOST_BYTES) else {
+        return Tail::NoEnd;
+    };
+    if lost % 2 != 0 {
+        return Tail::NoEnd;
     }
-    if lost.bytes % 2 != 0 {
-        return no_tail();
+    let stripe_at = at + 3 + lost;
+    let Content::There(bytes) = find_field(input, stripe_at, 5, MOST_STRIPE) else {
+        return Tail::NoEnd;
+    };
+    let end = stripe_at + 3 + bytes;
+    if end != input.len() {
+        return Tail::NoEnd;
     }
-    let stripe = find_field(input, lost.next, 5, 32768);
-    if !stripe.found {
-        return no_tail();
-    }
-    if stripe.next != input.len() {
-        return no_tail();
-    }
-    Tail {
-        found: true,
-        count: lost.bytes / 2,
-        bytes: stripe.bytes,
-    }
-}
-
-// What reading finds where the bytes are no job's.
-fn no_job() -> Fields
-    ensures { λ r. ⌜ r .«is_job» ≡ false ⌝ }
-{
-    Fields {
-        is_job: false,
-        code: 0,
-        p: 0,
-        cell: 0,
-        lost_at: 0,
-        lost_count: 0,
-        stripe_at: 0,
-        stripe_bytes: 0,
+    Tail::End {
+        count: lost / 2,
+        bytes,
     }
 }
 
 // Reads a job: its numbers and its end, which make up the whole input.
-fn read_job(input: &[u8]) -> Fields
+fn read_job(input: &[u8]) -> Found
     ensures { λ r. ⌜ Reads (now (input .entry)) r ⌝ }
 {
-    let begin = read_numbers(input);
-    if !begin.found {
-        return no_job();
-    }
-    let tail = read_tail(input, begin.next);
-    if !tail.found {
-        return no_job();
-    }
-    let lost_at = begin.next + 3;
-    Fields {
-        is_job: true,
-        code: begin.code,
-        p: begin.p,
-        cell: begin.cell,
-        lost_at: lost_at,
-        lost_count: tail.count,
-        stripe_at: lost_at + 2 * tail.count + 3,
-        stripe_bytes: tail.bytes,
-    }
+    let Numbers::Begin { shape, next } = read_numbers(input) else {
+        return Found::NoJob;
+    };
+    let Tail::End { count, bytes } = read_tail(input, next) else {
+        return Found::NoJob;
+    };
+    let lost_at = next + 3;
+    let stripe_at = lost_at + 2 * count + 3;
+    let fields = Fields {
+        shape,
+        lost_at,
+        lost_count: count,
+        stripe_at,
+        stripe_bytes: bytes,
+    };
+    Found::Lies(fields)
 }
 
 // Reads the numbers of the lost cells, as many as `count` says, from `at` on.
-fn read_lost(input: &[u8], at: usize, count: usize, lost: &mut [usize; 2048])
-    requires { ⌜ (count ≤ 2048) × (at + 2 * count ≤ length (now input)) × (length (now lost) ≡ 2048) ⌝ }
+fn read_lost(input: &[u8], at: usize, count: usize, lost: &mut [usize; MOST_LOST])
+    requires { ⌜ (count ≤ mostLost) × (at + 2 * count ≤ length (now input)) × (length (now lost) ≡ mostLost) ⌝ }
     ensures { λ _. ⌜ Lists (now (input .entry)) at count (now (lost .exit)) ⌝ }
 {
     let mut k = 0;
@@ -255,7 +198,7 @@ fn put_field(output: &mut [u8], at: usize, tag: u8, content: &[u8])
 
 // How long an answer is: field 06 has four bytes, and field 05, after 0 only, three more than the stripe.
 fn answer_size(answer: usize, stripe: &[u8]) -> usize
-    requires { ⌜ length (now stripe) ≤ 32768 ⌝ }
+    requires { ⌜ length (now stripe) ≤ mostStripe ⌝ }
     ensures { λ r. ⌜ r ≡ length (answerBytes answer (now (stripe .entry))) ⌝ }
 {
     if answer != 0 { 4 } else { stripe.len() + 7 }
@@ -263,7 +206,7 @@ fn answer_size(answer: usize, stripe: &[u8]) -> usize
 
 // Writes the answer's fields at the start of the output where there is room for all of them. Answers how long they are.
 fn write_answer(answer: usize, stripe: &[u8], output: &mut [u8]) -> usize
-    requires { ⌜ (answer < 256) × (length (now stripe) ≤ 32768) ⌝ }
+    requires { ⌜ (answer < 256) × (length (now stripe) ≤ mostStripe) ⌝ }
     ensures { λ r. ⌜ PutInto (answerBytes answer (now (stripe .entry))) (now (output .entry)) r (now (output .exit)) ⌝ }
 {
     let size = answer_size(answer, stripe);
@@ -285,14 +228,10 @@ fn rebuild_job(input: &[u8], f: Fields, stripe: &mut [u8]) -> usize
     let at = f.stripe_at;
     let end = at + f.stripe_bytes;
     xor::put_run(stripe, 0, &input[at..end]);
-    let mut lost = [0usize; 2048];
+    let mut lost = [0usize; MOST_LOST];
     let count = f.lost_count;
     read_lost(input, f.lost_at, count, &mut lost);
-    let shape = Shape {
-        code: f.code,
-        p: f.p,
-        cell: f.cell,
-    };
+    let shape = f.shape;
     rebuild::cells(shape, stripe, &lost[..count])
 }
 
@@ -310,11 +249,10 @@ fn carry_out(input: &[u8], f: Fields, stripe: &mut [u8], output: &mut [u8]) -> u
 pub fn answer(input: &[u8], output: &mut [u8]) -> usize
     ensures { λ r. ⌜ AnswersInto (now (input .entry)) (now (output .entry)) r (now (output .exit)) ⌝ }
 {
-    let f = read_job(input);
-    if !f.is_job {
-        return write_answer(13, &[], output);
-    }
+    let Found::Lies(f) = read_job(input) else {
+        return write_answer(NO_JOB, &[], output);
+    };
     let n = f.stripe_bytes;
-    let mut stripe = [0u8; 32768];
+    let mut stripe = [0u8; MOST_STRIPE];
     carry_out(input, f, &mut stripe[..n], output)
 }

@@ -1,7 +1,9 @@
--- `jobs::answer` meets its contract. Where there is no job the answer is 13; else the job is carried out in a part of an array.
-use mathlib.Core.Path.{sym}
+-- `jobs::answer` meets its contract. Where there is no job the answer says so; else the job is carried out in a part of an array.
+use mathlib.Core.Path.{sym, subst}
+use Prim.Native.Nat.{_≤_}
 use native.Mathlib.Omega.{arith}
-use borrow.Author.Tests.{not-true, not-false}
+use Rattle.jobs.specs.Format.{mostStripe, Job}
+use Rattle.jobs.specs.Reading.{Holds, Reads}
 use Rattle.jobs.proofs.Answering.{answers-none, space-enough, space-taken}
 use borrow.Author.Needs.{needs}
 use Rattle.jobs.proofs.answer.Statement.{statement}
@@ -9,6 +11,20 @@ use Rattle.jobs.proofs.answer.Tie as tie
 
 read-job-requires : tie.Need-read-job-requires
 read-job-requires c κs = search needs
+
+enum-known-f : tie.Need-enum-known-f
+enum-known-f c = search needs
+
+enum-told : tie.Need-enum-told
+enum-told c = search needs
+
+-- past the reading there is a job
+job : (c : tie.After-f) → (j : Job) × Holds (c .before .before .before .before .before .args .input .now) j (c .f .given .0 .0)
+job c = subst (Reads _) (c .f .given .1) (c .before .before .read-job .ensures)
+
+-- and its stripe has room in the array
+short : (c : tie.After-f) → c .f .given .0 .0 .«stripe_bytes» ≤ mostStripe
+short c = omega (arith, job c .1 .bytes, job c .1 .fits .short)
 
 slice-aggregate-write-answer : tie.Need-slice-aggregate-write-answer
 slice-aggregate-write-answer c = search needs
@@ -20,22 +36,16 @@ same-length : tie.Need-same-length
 same-length c = search needs
 
 returns : tie.Need-returns
-returns c = answers-none _ _ (c .before .before .before .before .before .before .before .read-job .ensures .none (not-true _ (c .before .before .before .before .before .if1 .taken))) _ _ (c .before .before .write-answer .ensures)
+returns c = answers-none _ _ (subst (Reads _) (c .before .before .before .before .before .enum-told .given .1) (c .before .before .before .before .before .before .before .read-job .ensures)) _ _ (c .before .before .write-answer .ensures)
 
 array-borrow-prefix-stripe : tie.Need-array-borrow-prefix-stripe
-array-borrow-prefix-stripe c =
-    let job = c .before .before .read-job .ensures .job (not-false _ (c .if1 .left)) in
-    space-enough _ (omega (arith, job .1 .bytes, job .1 .fits .short))
+array-borrow-prefix-stripe c = space-enough _ (short (c .before))
 
 slice-aggregate-carry-out : tie.Need-slice-aggregate-carry-out
-slice-aggregate-carry-out c =
-    let job = c .before .before .before .read-job .ensures .job (not-false _ (c .before .if1 .left)) in
-    sym (space-taken _ (omega (arith, job .1 .bytes, job .1 .fits .short)))
+slice-aggregate-carry-out c = sym (space-taken _ (short (c .before .before)))
 
 carry-out-requires : tie.Need-carry-out-requires
-carry-out-requires c κs =
-    let job = c .before .before .before .before .read-job .ensures .job (not-false _ (c .before .before .if1 .left)) in
-    (job, space-taken _ (omega (arith, job .1 .bytes, job .1 .fits .short)))
+carry-out-requires c κs = (job (c .before .before .before), space-taken _ (short (c .before .before .before)))
 
 same-length-2 : tie.Need-same-length-2
 same-length-2 c = search needs
@@ -48,6 +58,8 @@ answer-spec =
     tie.close
     (tie.spec
     read-job-requires
+    enum-known-f
+    enum-told
     slice-aggregate-write-answer
     write-answer-requires
     same-length

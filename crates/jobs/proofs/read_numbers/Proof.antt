@@ -1,8 +1,6 @@
 -- `jobs::read_numbers` meets its contract. Fields 01 and 02 have one byte, so field 03 or what follows starts at the ninth.
-use mathlib.Core.Path.{refl}
 use native.Mathlib.Omega.{arith}
 use borrow.Author.Tests.{not-true, not-false}
-use Rattle.xor.proofs.Cases.{clash}
 use Rattle.jobs.specs.Places.{FieldAt}
 use Rattle.jobs.proofs.Reading.{code-lies, p-lies, begins-given, begins-absent}
 use borrow.Author.Needs.{needs}
@@ -11,9 +9,6 @@ use Rattle.jobs.proofs.read_numbers.Tie as tie
 
 has-field-requires : tie.Need-has-field-requires
 has-field-requires c κs = search needs
-
-no-numbers-requires : tie.Need-no-numbers-requires
-no-numbers-requires c κs = search needs
 
 -- past the first test field 01 is there
 first : (c : tie.Else1) → FieldAt (c .before .before .before .args .input .now) 0 1 1
@@ -24,16 +19,13 @@ second : (c : tie.Else2) → FieldAt (c .before .before .before .before .before 
 second c = c .before .has-field2 .ensures .there (not-false _ (c .if2 .left))
 
 returns : tie.Need-returns
-returns c = record { there = λ t. clash t (c .no-numbers .ensures); none = λ _ j e. c .before .before .has-field .ensures .none (not-true _ (c .before .if1 .taken)) (code-lies _ j e .there) }
+returns c = λ j e. c .before .has-field .ensures .none (not-true _ (c .if1 .taken)) (code-lies _ j e .there)
 
 has-field-requires-2 : tie.Need-has-field-requires-2
 has-field-requires-2 c κs = omega (arith, first c .inside)
 
-no-numbers-requires-2 : tie.Need-no-numbers-requires-2
-no-numbers-requires-2 c κs = search needs
-
 returns-2 : tie.Need-returns-2
-returns-2 c = record { there = λ t. clash t (c .no-numbers2 .ensures); none = λ _ j e. c .before .before .has-field2 .ensures .none (not-true _ (c .before .if2 .taken)) (p-lies _ j e .there) }
+returns-2 c = λ j e. c .before .has-field2 .ensures .none (not-true _ (c .if2 .taken)) (p-lies _ j e .there)
 
 shared-slice-read-code : tie.Need-shared-slice-read-code
 shared-slice-read-code c = omega (arith, second (c .before) .inside)
@@ -57,28 +49,20 @@ returns-3 : tie.Need-returns-3
 returns-3 c =
     let past = c .before .before .before .before .before in
     let third = c .before .before .has-field3 .ensures .there (c .before .if3 .taken) in
-    record {
-      there = λ _. begins-given _ (first (past .before .before)) (second past) third _ (c .two-bytes .ensures .0);
-      none = λ t. clash refl t;
-    }
+    begins-given _ (first (past .before .before)) (second past) third _ (c .two-bytes .ensures .0)
 
 returns-4 : tie.Need-returns-4
 returns-4 c =
     let past = c .before .before .before .before in
-    record {
-      there = λ _. begins-absent _ (first (past .before .before)) (second past) (c .before .has-field3 .ensures .none (c .if3 .left));
-      none = λ t. clash refl t;
-    }
+    begins-absent _ (first (past .before .before)) (second past) (c .before .has-field3 .ensures .none (c .if3 .left))
 
 pub read-numbers-spec : {M : Type 1} → statement M
 read-numbers-spec =
     tie.close
     (tie.spec
     has-field-requires
-    no-numbers-requires
     returns
     has-field-requires-2
-    no-numbers-requires-2
     returns-2
     shared-slice-read-code
     cast-code

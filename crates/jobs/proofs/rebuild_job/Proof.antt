@@ -1,5 +1,5 @@
 -- `jobs::rebuild_job` meets its contract. The copy is the job's stripe, and the list has the job's numbers.
-use mathlib.Core.Path.{refl, sym}
+use mathlib.Core.Path.{sym}
 use Prim.Native.Nat.{_+_, _-_}
 use native.Mathlib.Omega.{arith}
 use lib.Seq.{length-take-le}
@@ -27,10 +27,10 @@ read-lost-requires : tie.Need-read-lost-requires
 read-lost-requires c κs = search needs
 
 array-share-prefix-lost : tie.Need-array-share-prefix-lost
-array-share-prefix-lost c = let long = c .before .read-lost .ensures .long in omega arith
+array-share-prefix-lost c = let long = c .before .before .read-lost .ensures .long in omega arith
 
 slice-aggregate-cells : tie.Need-slice-aggregate-cells
-slice-aggregate-cells c = let long = c .before .before .read-lost .ensures .long in sym (length-take-le _ (c .before .before .read-lost .last .1 .1 .1 .0) (omega arith))
+slice-aggregate-cells c = let long = c .before .before .before .read-lost .ensures .long in sym (length-take-le _ (c .before .before .before .read-lost .last .1 .1 .1 .0) (omega arith))
 
 cells-requires : tie.Need-cells-requires
 cells-requires c κs = search needs
@@ -40,8 +40,8 @@ same-length c = search needs
 
 returns : tie.Need-returns
 returns c = λ j h.
-    let a = c .before .before .before .before .before .before .before .before .before .before .before .before .before .before .before .args in
-    rebuilt (a .input .now) (a .f) j h _ _ _ _ (a .f .«stripe_at» + a .f .«stripe_bytes» - a .f .«stripe_at») _ _ refl refl refl (omega arith) (c .before .before .before .before .before .before .before .before .before .before .before .before .before .before .before .pre .1) (c .before .before .before .before .before .before .before .before .before .put-run .ensures) (c .before .before .before .before .before .read-lost .ensures) (c .before .before .cells .ensures)
+    let a = c .before .before .before .before .before .before .before .before .before .before .before .before .before .before .before .before .args in
+    rebuilt (a .input .now) (a .f) j h _ _ _ (a .f .«stripe_at» + a .f .«stripe_bytes» - a .f .«stripe_at») _ _ (omega arith) (c .before .before .before .before .before .before .before .before .before .before .before .before .before .before .before .before .pre .1) (c .before .before .before .before .before .before .before .before .before .before .put-run .ensures) (c .before .before .before .before .before .before .read-lost .ensures) (c .before .before .cells .ensures)
 
 pub rebuild-job-spec : {M : Type 1} → statement M
 rebuild-job-spec =
