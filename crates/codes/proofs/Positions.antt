@@ -3,7 +3,7 @@ use mathlib.Core.Path.{_≡_, sym, ap, ap₂, _∙_, subst}
 use mathlib.Core.Logic.{_≢_}
 use mathlib.Core.Bool.{true, not, _&&_, _||_}
 use Prim.Native.Nat.{ℕ, _+_, _-_, _*_, _/_, _%_, _≤_, _<_}
-use native.Mathlib.Nat.{mod-lt, mod-eq-of-lt, add-mod-right, add-comm, add-assoc, mul-le-mul}
+use native.Mathlib.Nat.{mod-lt, div-add-mod', mod-eq-of-lt, add-mod-right, add-comm, add-assoc, mul-le-mul}
 use native.Mathlib.Omega.{arith}
 use lib.Arith.{digits-div, digits-mod, digits-lt}
 use lib.Dec.{eqb, ltb, leb}
@@ -33,6 +33,10 @@ module _ (s : Shape) (w : WellFormed s) where
   pub column-is : (i j : ℕ) → i < rows s → cellNumber s i j / rows s ≡ j
   unfolding cellNumber
   column-is i j l = digits-div j l
+
+  pub cell-is : (c : ℕ) → cellNumber s (c % rows s) (c / rows s) ≡ c
+  unfolding cellNumber
+  cell-is c = div-add-mod' c (rows s)
 
   pub cell-inside : (i j : ℕ) → i < rows s → j < columns s → cellNumber s i j < cells s
   unfolding cellNumber cells

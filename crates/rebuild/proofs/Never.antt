@@ -13,7 +13,7 @@ use Rattle.codes.specs.Shape.{rows, columns, WellFormed}
 use Rattle.codes.specs.Refusals.{Fault, order, applies, firstOf, refusal, shapeFaults, stripeFaults, columnsFaults}
 use Rattle.codes.proofs.Refused.{columns-accepted}
 use Rattle.codes.proofs.Parity.{same-bytes}
-use Rattle.codes.proofs.TwoColumns.{two-columns-determined}
+use Rattle.columns.proofs.TwoColumns.{two-columns-determined}
 use Rattle.rebuild.specs.Survivors.{Undetermined, Restores}
 use Rattle.rebuild.specs.Rebuild.{Rebuilds, inColumns, RebuildsColumns}
 use Rattle.rebuild.specs.Lanes.{bytesAt}

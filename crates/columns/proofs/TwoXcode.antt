@@ -8,14 +8,14 @@ use native.Mathlib.Omega.{arith}
 use lib.Dec.{eqb, ltb}
 use borrow.Author.Tests.{lt-ltb, eq-eqb, ne-eqb, ltb-true, eqb-true}
 use Rattle.xor.proofs.Cases.{by-equal, and-left, and-right, and-both}
 use Rattle.codes.specs.declared.Shape.{Shape}
 use Rattle.codes.specs.Shape.{rows, columns, cells, equations, WellFormed}
 use Rattle.codes.specs.Equations.{Equation, equation}
 use Rattle.codes.proofs.Shapes.{low, rows-third, columns-third, equations-third}
 use Rattle.codes.proofs.Lines.{xcode-first-is}
 use Rattle.codes.proofs.Positions.{families, xcode-family-is}
-use Rattle.codes.proofs.Paths.{shift-once, shift-from, shift-on, along-path}
-use Rattle.codes.proofs.Columns.{Meets, OnTwo, entry, entry-out, meets, balanced, all-zero}
+use Rattle.columns.proofs.Paths.{shift-once, shift-from, shift-on, along-path}
+use Rattle.columns.proofs.Columns.{Meets, OnTwo, entry, entry-out, meets, balanced, all-zero}
 
 -- The p lines of a family pass a column in the places k from 0 to p-1. Place k is row k; but in place p-2 stands the family's parity cell, in
 -- the row `parity` (p-2 for the first family, p-1 for the second), and in place p-1 a line has no cell: p is no row.

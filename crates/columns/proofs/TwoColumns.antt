@@ -6,16 +6,16 @@ use Prim.Native.Nat.{ℕ, _/_, _≤_, _<_}
 use native.Mathlib.Omega.{arith}
 use Rattle.xor.proofs.Cases.{by-equal, by-less}
 use Rattle.xor.proofs.Algebra.{⊕-equal, equal-⊕}
 use Rattle.codes.specs.declared.Shape.{Shape}
 use Rattle.codes.specs.Shape.{rows, columns, cells, equations, cellNumber, WellFormed}
 use Rattle.codes.specs.Encoded.{Solves}
 use Rattle.codes.specs.Holders.{holds}
 use Rattle.codes.proofs.Shapes.{low, columns-third, columns-other}
 use Rattle.codes.proofs.Solutions.{plus, solves-plus, solves-same}
-use Rattle.codes.proofs.Columns.{Meets, OnTwo, meets-only}
-use Rattle.codes.proofs.TwoRdp.{rdp-meets, two-rdp}
-use Rattle.codes.proofs.TwoHcode.{hcode-meets, two-hcode}
-use Rattle.codes.proofs.TwoXcode.{xcode-meets, two-xcode}
+use Rattle.columns.proofs.Columns.{Meets, OnTwo, meets-only}
+use Rattle.columns.proofs.TwoRdp.{rdp-meets, two-rdp}
+use Rattle.columns.proofs.TwoHcode.{hcode-meets, two-hcode}
+use Rattle.columns.proofs.TwoXcode.{xcode-meets, two-xcode}
 
 module _ (s : Shape) (w : WellFormed s) where
   columns-low : 3 ≤ columns s
