@@ -66,6 +66,10 @@ each-code P x1 x2 x3 code lo hi =
 pub of-code : (P : Code → Type 0) (s : Shape) → WellFormed s → P (rdp (s .p)) → P (hcode (s .p)) → P (xcode (s .p)) → P (codeOf s)
 of-code P s w x1 x2 x3 = each-code (λ n. P (codeOf (record { code = n; p = s .p; cell = s .cell }))) x1 x2 x3 (s .code) (w .codeLow) (w .codeHigh)
 
+-- a fact that is shown for each code by itself
+pub by-code : {A : Type 0} (s : Shape) → WellFormed s → (s .code ≡ 1 → A) → (s .code ≡ 2 → A) → (s .code ≡ 3 → A) → A
+by-code {A} s w x1 x2 x3 = each-code (λ n. s .code ≡ n → A) x1 x2 x3 (s .code) (w .codeLow) (w .codeHigh) refl
+
 -- what is neither RDP nor X-Code is H-Code
 pub hcode-left : (s : Shape) → WellFormed s → s .code ≢ 1 → s .code ≢ 3 → s .code ≡ 2
 hcode-left s w n1 n3 = omega (arith, w .codeLow, w .codeHigh)

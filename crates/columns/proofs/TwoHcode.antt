@@ -13,8 +13,8 @@ use Rattle.codes.specs.declared.Shape.{Shape}
 use Rattle.codes.specs.Shape.{rows, columns, cells, equations, WellFormed}
 use Rattle.codes.specs.Equations.{equation, hcodeRow, hcodeAntiDiagonal}
 use Rattle.codes.proofs.Residues.{there-and-back}
-use Rattle.codes.proofs.Lines.{hcode-rows, hcode-columns, hcode-row-is}
-use Rattle.codes.proofs.Positions.{families, hcode-n, hcode-second-is}
+use Rattle.codes.proofs.Lines.{hcode-rows, hcode-columns, hcode-n, hcode-row-is}
+use Rattle.codes.proofs.Positions.{families, hcode-second-is}
 use Rattle.columns.proofs.Paths.{shift-once, shift-from, shift-on, along-path}
 use Rattle.columns.proofs.Columns.{Meets, OnTwo, entry, entry-out, meets, balanced, all-zero}
 

@@ -13,8 +13,8 @@ use Rattle.codes.specs.declared.Shape.{Shape}
 use Rattle.codes.specs.Shape.{rows, columns, cells, equations, WellFormed}
 use Rattle.codes.specs.Equations.{rdpRow, rdpDiagonal}
 use Rattle.codes.proofs.Shapes.{low}
-use Rattle.codes.proofs.Lines.{rdp-rows, rdp-columns, rdp-row-is}
-use Rattle.codes.proofs.Positions.{families, rdp-n, rdp-second-is}
+use Rattle.codes.proofs.Lines.{rdp-rows, rdp-columns, rdp-n, rdp-row-is}
+use Rattle.codes.proofs.Positions.{families, rdp-second-is}
 use Rattle.columns.proofs.Paths.{shift-once, shift-from, along-path}
 use Rattle.columns.proofs.Columns.{Meets, OnTwo, entry, entry-out, meets, balanced, all-zero}
 
