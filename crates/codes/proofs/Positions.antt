@@ -14,7 +14,7 @@ use Rattle.codes.specs.declared.Shape.{Shape}
 use Rattle.codes.specs.Shape.{rows, columns, equations, cells, cellNumber, WellFormed}
 use Rattle.codes.specs.Equations.{Equation, Code, rdp, hcode, xcode, codeOf, equation, rdpDiagonal, hcodeAntiDiagonal, xcodeSecond}
 use Rattle.codes.specs.Encoded.{parityCell, sumsCell, isParity}
-use Rattle.codes.proofs.Shapes.{low, cells-high, rdp-is, hcode-is, xcode-is, equations-of, first-of, second-at}
+use Rattle.codes.proofs.Shapes.{mostCells, mostBytes, low, cells-high, rdp-is, hcode-is, xcode-is, equations-of, first-of, second-at}
 use Rattle.codes.proofs.Residues.{wrapped, there-and-back}
 use Rattle.codes.proofs.Lines.{rdp-rows, rdp-columns, hcode-rows, xcode-columns}
 pub use Rattle.codes.proofs.Lines.{rdp-n, hcode-n, xcode-n, xcode-rows}
@@ -48,10 +48,10 @@ module _ (s : Shape) (w : WellFormed s) where
   unfolding cellNumber
   number-is i j n e = ap (λ (x : ℕ). j * x + i) e
 
-  pub number-small : (i j n : ℕ) → n ≡ rows s → i < rows s → j < columns s → j * n + i ≤ 992
+  pub number-small : (i j n : ℕ) → n ≡ rows s → i < rows s → j < columns s → j * n + i ≤ mostCells
   number-small i j n e li lj = omega (arith, number-is i j n e, cell-inside i j li lj, cells-high s w)
 
-  pub place-small : (i j n : ℕ) → n ≡ rows s → i < rows s → j < columns s → (j * n + i) * s .cell ≤ 4063232
+  pub place-small : (i j n : ℕ) → n ≡ rows s → i < rows s → j < columns s → (j * n + i) * s .cell ≤ mostBytes
   place-small i j n e li lj = mul-le-mul (number-small i j n e li lj) (w .cellHigh)
 
   -- a cell has one row and one column

@@ -10,7 +10,7 @@ use borrow.Author.Tests.{eqb-true, lt-ltb, le-ltb}
 use Rattle.xor.proofs.Cases.{by-equal, either, not-passed}
 use Rattle.codes.specs.declared.Shape.{Shape}
 use Rattle.codes.specs.Equations.{Equation, Code, rdp, hcode, xcode, codeOf, equation}
-use Rattle.codes.specs.Shape.{listed, rows, columns, equations, cells, stripeLength, WellFormed}
+use Rattle.codes.specs.Shape.{lastCode, listed, mostCell, rows, columns, equations, cells, stripeLength, WellFormed}
 
 -- what holds of each of the ten primes holds of a listed number
 pub each-prime : (P : ℕ → Type 0) → P 3 → P 5 → P 7 → P 11 → P 13 → P 17 → P 19 → P 23 → P 29 → P 31 → (p : ℕ) → listed p ≡ true → P p
@@ -55,7 +55,7 @@ prime-high : (p : ℕ) → listed p ≡ true → p ≤ 31
 prime-high = each-prime (λ p. p ≤ 31) (omega arith) (omega arith) (omega arith) (omega arith) (omega arith) (omega arith) (omega arith) (omega arith) (omega arith) (omega arith)
 
 -- what holds of each of the three codes
-pub each-code : (P : ℕ → Type 0) → P 1 → P 2 → P 3 → (code : ℕ) → 1 ≤ code → code ≤ 3 → P code
+pub each-code : (P : ℕ → Type 0) → P 1 → P 2 → P 3 → (code : ℕ) → 1 ≤ code → code ≤ lastCode → P code
 each-code P x1 x2 x3 code lo hi =
     by-equal code 1 (λ e. subst P (sym e) x1) (λ n1. by-equal code 2 (λ e. subst P (sym e) x2) (λ n2. subst P (rest n1 n2) x3))
   where
@@ -147,14 +147,30 @@ module _ (s : Shape) where
 
 -- ---- what is small
 
--- how large the stripes of a code are
+-- the most rows, columns, equations, cells and bytes of a stripe
+abbrev pub mostRows : ℕ
+mostRows = 31
+
+abbrev pub mostColumns : ℕ
+mostColumns = 32
+
+abbrev pub mostEquations : ℕ
+mostEquations = 62
+
+abbrev pub mostCells : ℕ
+mostCells = 961
+
+abbrev pub mostBytes : ℕ
+mostBytes = mostCells * mostCell
+
+-- what the stripes of a code keep to
 record Sized (p : ℕ) (c : Code) : Type 0 where
   rows-low : 2 ≤ c .rows
-  rows-high : c .rows ≤ 31
+  rows-high : c .rows ≤ mostRows
   wide : p ≤ c .columns
-  columns-high : c .columns ≤ 32
-  size-high : c .size ≤ 31
-  cells-high : c .columns * c .rows ≤ 961
+  columns-high : c .columns ≤ mostColumns
+  equations-high : 2 * c .size ≤ mostEquations
+  cells-high : c .columns * c .rows ≤ mostCells
 
 module _ (s : Shape) (w : WellFormed s) where
   pub low : 3 ≤ s .p
@@ -170,7 +186,7 @@ module _ (s : Shape) (w : WellFormed s) where
     rows-high = omega (arith, high);
     wide = omega arith;
     columns-high = omega (arith, high);
-    size-high = omega (arith, high);
+    equations-high = omega (arith, high);
     cells-high =
         let width : s .p + 1 ≤ 32 = omega (arith, high) in
         let height : s .p - 1 ≤ 30 = omega (arith, high) in
@@ -183,7 +199,7 @@ module _ (s : Shape) (w : WellFormed s) where
     rows-high = high;
     wide = omega arith;
     columns-high = omega (arith, high);
-    size-high = high;
+    equations-high = omega (arith, high);
     cells-high = mul-le-mul high high;
   }
 
@@ -194,7 +210,7 @@ module _ (s : Shape) (w : WellFormed s) where
   unfolding rows
   rows-low = sized .rows-low
 
-  pub rows-high : rows s ≤ 31
+  pub rows-high : rows s ≤ mostRows
   unfolding rows
   rows-high = sized .rows-high
 
@@ -202,19 +218,19 @@ module _ (s : Shape) (w : WellFormed s) where
   unfolding columns
   few-columns = sized .wide
 
-  pub columns-high : columns s ≤ 32
+  pub columns-high : columns s ≤ mostColumns
   unfolding columns
   columns-high = sized .columns-high
 
-  pub small-equations : equations s ≤ 62
+  pub small-equations : equations s ≤ mostEquations
   unfolding equations
-  small-equations = omega (arith, sized .size-high)
+  small-equations = sized .equations-high
 
-  pub cells-high : cells s ≤ 961
+  pub cells-high : cells s ≤ mostCells
   unfolding cells rows columns
   cells-high = sized .cells-high
 
-  pub length-high : stripeLength s ≤ 3936256
+  pub length-high : stripeLength s ≤ mostBytes
   unfolding stripeLength
   length-high = mul-le-mul cells-high (w .cellHigh)
 

@@ -6,6 +6,10 @@ use lib.Dec.{eqb}
 use Rattle.codes.specs.declared.Shape.{Shape}
 use Rattle.codes.specs.Equations.{codeOf}
 
+-- codes are numbered from 1 to this
+abbrev pub lastCode : ℕ
+lastCode = 3
+
 -- p is one of the ten primes
 unfoldable pub listed : ℕ → Bool
 listed p = eqb p 3 || eqb p 5 || eqb p 7 || eqb p 11 || eqb p 13 || eqb p 17 || eqb p 19 || eqb p 23 || eqb p 29 || eqb p 31
@@ -41,7 +45,7 @@ stripeLength s = cells s * s .cell
 -- the three numbers are in their ranges
 pub record WellFormed (s : Shape) : Type 0 where
   pub codeLow : 1 ≤ s .code
-  pub codeHigh : s .code ≤ 3
+  pub codeHigh : s .code ≤ lastCode
   pub prime : listed (s .p) ≡ true
   pub cellLow : 1 ≤ s .cell
   pub cellHigh : s .cell ≤ mostCell
