@@ -11,7 +11,7 @@ use Rattle.xor.proofs.Cases.{by-less, clash, and-left, and-right, and-both, not
 use Rattle.xor.proofs.Sets.{neither-left, neither-right, any-none}
 use Rattle.codes.specs.declared.Shape.{Shape}
 use Rattle.codes.specs.Equations.{Equation, codeOf, equation}
-use Rattle.codes.specs.Shape.{listed, rows, columns, equations, cells, WellFormed}
+use Rattle.codes.specs.Shape.{lastCode, listed, rows, columns, equations, cells, WellFormed}
 use Rattle.codes.specs.Encoded.{parityCell, sumsCell}
 use Rattle.codes.proofs.Shapes.{each-prime, each-code}
 use Rattle.codes.proofs.Positions.{cell-inside, same-row, same-column, sums-of}
@@ -32,18 +32,13 @@ wrong s r = let e = equation s r in not (ltb (e .row) (rows s) && ltb (e .column
 disordered : (code p : ℕ) → Bool
 disordered code p = let s : Shape = record { code = code; p = p; cell = 1 } in any (equations s) (wrong s)
 
-module _ (p : ℕ) (h : listed p ≡ true) where
-  rdp-passes : disordered 1 p ≡ false
-  unfolding disordered wrong astray any equations rows columns equation
-  rdp-passes = each-prime (λ n. disordered 1 n ≡ false) refl refl refl refl refl refl refl refl refl refl p h
-
-  hcode-passes : disordered 2 p ≡ false
-  unfolding disordered wrong astray any equations rows columns equation
-  hcode-passes = each-prime (λ n. disordered 2 n ≡ false) refl refl refl refl refl refl refl refl refl refl p h
-
-  xcode-passes : disordered 3 p ≡ false
-  unfolding disordered wrong astray any equations rows columns equation
-  xcode-passes = each-prime (λ n. disordered 3 n ≡ false) refl refl refl refl refl refl refl refl refl refl p h
+in-order : (code : ℕ) → 1 ≤ code → code ≤ lastCode → (p : ℕ) → listed p ≡ true → disordered code p ≡ false
+unfolding disordered wrong astray any equations rows columns equation
+in-order =
+    each-code (λ c. (p : ℕ) → listed p ≡ true → disordered c p ≡ false)
+    (each-prime (λ p. disordered 1 p ≡ false) refl refl refl refl refl refl refl refl refl refl)
+    (each-prime (λ p. disordered 2 p ≡ false) refl refl refl refl refl refl refl refl refl refl)
+    (each-prime (λ p. disordered 3 p ≡ false) refl refl refl refl refl refl refl refl refl refl)
 
 -- what the test says of a well-formed shape
 pub record Ordered (s : Shape) : Type 0 where
@@ -60,7 +55,7 @@ same-bool false false h = refl
 module _ (s : Shape) (w : WellFormed s) where
   passes : any (equations s) (wrong s) ≡ false
   unfolding disordered wrong astray equations rows columns equation
-  passes = each-code (λ n. disordered n (s .p) ≡ false) (rdp-passes (s .p) (w .prime)) (hcode-passes (s .p) (w .prime)) (xcode-passes (s .p) (w .prime)) (s .code) (w .codeLow) (w .codeHigh)
+  passes = in-order (s .code) (w .codeLow) (w .codeHigh) (s .p) (w .prime)
 
   module _ (r : ℕ) (lr : r < equations s) where
     -- where the parity cell of equation r stands
