@@ -18,10 +18,9 @@ use Rattle.codes.specs.Shape.{rows, columns, cells, equations, cellNumber, Well
 use Rattle.codes.specs.Encoded.{total}
 use Rattle.codes.specs.Holders.{holds}
 use Rattle.codes.proofs.Shapes.{rows-low}
-use Rattle.codes.proofs.Positions.{row-is, column-is, cell-inside}
+use Rattle.codes.proofs.Positions.{row-is, column-is, cell-is, cell-inside}
 use Rattle.codes.proofs.Solutions.{plus, total-plus, total-zero, zero-total, total-holds}
-use Rattle.codes.proofs.Columns.{cell-is}
-use Rattle.codes.proofs.TwoColumns.{one-in-column}
+use Rattle.columns.proofs.TwoColumns.{one-in-column}
 use Rattle.rebuild.specs.Candidate.{Explains, TotalsOf, Without, Candidate}
 
 -- the value of each row in the cells of column c, and 0 elsewhere

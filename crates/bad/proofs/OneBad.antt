@@ -14,7 +14,7 @@ use Rattle.codes.specs.Shape.{rows, equations, WellFormed}
 use Rattle.codes.specs.Encoded.{total, Solves, Encoded, fails}
 use Rattle.codes.specs.Lines.{Holding}
 use Rattle.codes.proofs.Solutions.{total-zero}
-use Rattle.codes.proofs.TwoColumns.{at-most-one-column}
+use Rattle.columns.proofs.TwoColumns.{at-most-one-column}
 use Rattle.stripe.proofs.Steps.{held-sum, fails-is, not-failing}
 use Rattle.codes.specs.Agree.{inColumns}
 use Rattle.rebuild.specs.Bad.{Replaceable}

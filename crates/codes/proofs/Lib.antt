@@ -1,5 +1,4 @@
 -- The laws behind the shape of a stripe, its refusals, the walk through an equation's cells, the order of the equations, and the parity cells that depend on a data cell.
--- Last: that any two columns of a solution are determined by the others.
 pub mod Shapes
 pub mod Refused
 pub mod Residues
@@ -10,10 +9,4 @@ pub mod Places
 pub mod Positions
 pub mod Depends
 pub mod Held
-pub mod Paths
 pub mod Solutions
-pub mod Columns
-pub mod TwoRdp
-pub mod TwoHcode
-pub mod TwoXcode
-pub mod TwoColumns

@@ -7,17 +7,17 @@ use native.Mathlib.Nat.{mod-lt, mod-eq-of-lt, mod-add-mod, add-mod-mod, div-lt-i
 use native.Mathlib.Omega.{arith}
 use lib.Arith.{digits-lt, digits-div, digits-mod}
 use lib.Dec.{eqb, ltb}
-use borrow.Author.Tests.{lt-ltb, le-ltb, eq-eqb, ne-eqb, ltb-true, eqb-true, eqb-false, not-true}
+use borrow.Author.Tests.{lt-ltb, eq-eqb, ne-eqb, ltb-true, eqb-true, eqb-false, not-true}
 use Rattle.xor.proofs.Cases.{by-equal, and-left, and-right, and-both}
 use Rattle.xor.specs.Xor.{xors}
 use Rattle.xor.proofs.Sums.{xors-same, Lists, xors-listed}
 use Rattle.codes.specs.declared.Shape.{Shape}
 use Rattle.codes.specs.declared.Line.{Line}
 use Rattle.codes.specs.Shape.{rows, columns, cells, cellNumber, equations, WellFormed}
-use Rattle.codes.specs.Equations.{Equation, equation, rdpRow, rdpDiagonal, hcodeRow, hcodeAntiDiagonal, xcodeFirst, xcodeSecond}
+use Rattle.codes.specs.Equations.{Equation, rdp, hcode, xcode, equation, rdpRow, rdpDiagonal, hcodeRow, hcodeAntiDiagonal, xcodeFirst, xcodeSecond}
 use Rattle.codes.specs.Encoded.{parityCell, sumsCell, sumOver}
 use Rattle.codes.specs.Lines.{lineCell, Walks}
-use Rattle.codes.proofs.Shapes.{low, high, rows-low, rows-third, columns-third, rows-other, columns-other, equations-other}
+use Rattle.codes.proofs.Shapes.{low, high, rows-low, few-columns, rdp-is, hcode-is, xcode-is, rows-of, columns-of, equations-of, first-of, second-of}
 use Rattle.codes.proofs.Residues.{there-and-back, steps-back, turns}
 
 -- row and column of cell k
@@ -47,12 +47,9 @@ record Through (s : Shape) (e : Equation) (l : Line) : Type 0 where
   once : (j k : ℕ) → j < l .count → k < l .count → lineRow l j ≡ lineRow l k → lineColumn (s .p) l j ≡ lineColumn (s .p) l k → j ≡ k
 
 module _ (s : Shape) (w : WellFormed s) where
-  few-columns : s .p ≤ columns s
-  few-columns = by-equal (s .code) 3 (λ e. omega (arith, columns-third s e)) (λ n. omega (arith, columns-other s w n))
-
   module _ (q : ℕ) (e : Equation) (l : Line) (is : equation s q ≡ e) (h : Through s e l) where
     in-column : (k : ℕ) → lineColumn (s .p) l k < columns s
-    in-column k = let small : lineColumn (s .p) l k < s .p = mod-lt (l .column + l .step * k) (omega (arith, low s w)) in omega (arith, few-columns)
+    in-column k = let small : lineColumn (s .p) l k < s .p = mod-lt (l .column + l .step * k) (omega (arith, low s w)) in omega (arith, few-columns s w)
 
     row-of : (k : ℕ) → k < l .count → lineCell s l k % rows s ≡ lineRow l k
     unfolding lineCell cellNumber
@@ -136,18 +133,19 @@ module _ (s : Shape) (w : WellFormed s) where
 
   module _ (is-rdp : s .code ≡ 1) where
     pub rdp-rows : s .p - 1 ≡ rows s
-    rdp-rows = rows-other s w (λ e. omega arith)
+    rdp-rows = rows-of s (rdp (s .p)) (rdp-is s is-rdp)
 
     pub rdp-columns : s .p + 1 ≡ columns s
-    rdp-columns = columns-other s w (λ e. omega arith)
+    rdp-columns = columns-of s (rdp (s .p)) (rdp-is s is-rdp)
+
+    pub rdp-n : equations s ≡ 2 * (s .p - 1)
+    rdp-n = sym (equations-of s (rdp (s .p)) (rdp-is s is-rdp))
 
     pub rdp-row-is : (q : ℕ) → q < s .p - 1 → equation s q ≡ rdpRow (s .p) q
-    unfolding equation
-    rdp-row-is q l = rw (is-rdp, lt-ltb q (s .p - 1) l) refl
+    rdp-row-is = first-of s (rdp (s .p)) (rdp-is s is-rdp)
 
     pub rdp-diagonal-is : (q : ℕ) → s .p - 1 ≤ q → equation s q ≡ rdpDiagonal (s .p) (q - (s .p - 1))
-    unfolding equation
-    rdp-diagonal-is q l = rw (is-rdp, le-ltb q (s .p - 1) l) refl
+    rdp-diagonal-is = second-of s (rdp (s .p)) (rdp-is s is-rdp)
 
     pub rdp-row : (q : ℕ) → q < s .p - 1 → Walks s q (flat ((s .p - 1) * (s .p - 1) + q) (s .p - 1) q 0)
     rdp-row q l =
@@ -196,7 +194,7 @@ module _ (s : Shape) (w : WellFormed s) where
         pos = omega (arith, low s w)
 
         d-small : d < s .p - 1
-        d-small = omega (arith, equations-other s w (λ e. omega arith))
+        d-small = omega (arith, rdp-n)
 
         -- cell k is on diagonal d
         on : (k : ℕ) → (k + (d + (s .p - 1) * k) % s .p) % s .p ≡ d
@@ -218,7 +216,7 @@ module _ (s : Shape) (w : WellFormed s) where
         → (f : ℕ → ℕ) → sumOver s (s .p - 1 + d) f ≡ xors (s .p - 1) (λ i. f (cellNumber s i (column i)))
     unfolding lineCell
     rdp-diagonal-sum d l column on f =
-        rdp-diagonal (s .p - 1 + d) (omega arith) (omega (arith, equations-other s w (λ e. omega arith))) .sum f
+        rdp-diagonal (s .p - 1 + d) (omega arith) (omega (arith, rdp-n)) .sum f
         ∙ xors-same (s .p - 1) (λ i. f (cellNumber s (0 + 1 * i) ((s .p - 1 + d - (s .p - 1) + (s .p - 1) * i) % s .p))) (λ i. f (cellNumber s i (column i)))
         (λ i li. ap f (ap₂ (cellNumber s) (let same : 0 + 1 * i ≡ i = omega arith in same)
         (ap (λ (n : ℕ). (n + (s .p - 1) * i) % s .p) (let same : s .p - 1 + d - (s .p - 1) ≡ d = omega arith in same) ∙ rdp-back d i (column i) (on i li .0) (on i li .1))))
@@ -227,18 +225,19 @@ module _ (s : Shape) (w : WellFormed s) where
 
   module _ (is-hcode : s .code ≡ 2) where
     pub hcode-rows : s .p - 1 ≡ rows s
-    hcode-rows = rows-other s w (λ e. omega arith)
+    hcode-rows = rows-of s (hcode (s .p)) (hcode-is s is-hcode)
 
     pub hcode-columns : s .p + 1 ≡ columns s
-    hcode-columns = columns-other s w (λ e. omega arith)
+    hcode-columns = columns-of s (hcode (s .p)) (hcode-is s is-hcode)
+
+    pub hcode-n : equations s ≡ 2 * (s .p - 1)
+    hcode-n = sym (equations-of s (hcode (s .p)) (hcode-is s is-hcode))
 
     pub hcode-row-is : (q : ℕ) → q < s .p - 1 → equation s q ≡ hcodeRow (s .p) q
-    unfolding equation
-    hcode-row-is q l = rw (is-hcode, lt-ltb q (s .p - 1) l) refl
+    hcode-row-is = first-of s (hcode (s .p)) (hcode-is s is-hcode)
 
     pub hcode-anti-is : (q : ℕ) → s .p - 1 ≤ q → equation s q ≡ hcodeAntiDiagonal (s .p) (q - (s .p - 1))
-    unfolding equation
-    hcode-anti-is q l = rw (is-hcode, le-ltb q (s .p - 1) l) refl
+    hcode-anti-is = second-of s (hcode (s .p)) (hcode-is s is-hcode)
 
     module _ (r : ℕ) (lr : r < s .p - 1) (column : ℕ) (starts : column ≡ (r + 2) % s .p) where
       pos : 0 < s .p
@@ -321,18 +320,25 @@ module _ (s : Shape) (w : WellFormed s) where
 
     pub hcode-anti : (q column : ℕ) → s .p - 1 ≤ q → q < equations s → column ≡ (q - (s .p - 1) + 2) % s .p
         → Walks s q (fallen ((q - (s .p - 1) + 1) * (s .p - 1) + (q - (s .p - 1))) (s .p - 1) column 1)
-    hcode-anti q column lo hi starts = hcode-anti′ (q - (s .p - 1)) (omega (arith, equations-other s w (λ e. omega arith))) column starts q (hcode-anti-is q lo)
+    hcode-anti q column lo hi starts = hcode-anti′ (q - (s .p - 1)) (omega (arith, hcode-n)) column starts q (hcode-anti-is q lo)
 
   -- ---- X-Code
 
   module _ (is-xcode : s .code ≡ 3) where
+    pub xcode-rows : s .p ≡ rows s
+    xcode-rows = rows-of s (xcode (s .p)) (xcode-is s is-xcode)
+
+    pub xcode-columns : s .p ≡ columns s
+    xcode-columns = columns-of s (xcode (s .p)) (xcode-is s is-xcode)
+
+    pub xcode-n : equations s ≡ 2 * s .p
+    xcode-n = sym (equations-of s (xcode (s .p)) (xcode-is s is-xcode))
+
     pub xcode-first-is : (q : ℕ) → q < s .p → equation s q ≡ xcodeFirst (s .p) q
-    unfolding equation
-    xcode-first-is q l = rw (is-xcode, lt-ltb q (s .p) l) refl
+    xcode-first-is = first-of s (xcode (s .p)) (xcode-is s is-xcode)
 
     pub xcode-second-is : (q : ℕ) → s .p ≤ q → equation s q ≡ xcodeSecond (s .p) (q - s .p)
-    unfolding equation
-    xcode-second-is q l = rw (is-xcode, le-ltb q (s .p) l) refl
+    xcode-second-is = second-of s (xcode (s .p)) (xcode-is s is-xcode)
 
     -- a family of X-Code: in row k below p - 2 it sums the cell of one column
     family : (q parity c row column step : ℕ) (at : ℕ → ℕ) → equation s q ≡ record { row = row; column = c; sums = λ k j. ltb k (s .p - 2) && eqb j (at k) }
@@ -340,7 +346,7 @@ module _ (s : Shape) (w : WellFormed s) where
     family q parity c row column step at is par lc ls goes =
         walks q e _ is
         (falling e parity (s .p - 2) column step
-        (par ∙ ap (λ (n : ℕ). c * n + row) (rows-third s is-xcode)) (omega (arith, high s w)) (omega (arith, rows-third s is-xcode)) lc ls
+        (par ∙ ap (λ (n : ℕ). c * n + row) (xcode-rows)) (omega (arith, high s w)) (omega (arith, xcode-rows)) lc ls
         (λ k lk. and-both (lt-ltb k (s .p - 2) lk) (eq-eqb ((column + step * k) % s .p) (at k) (goes k lk)))
         (λ i j li lj p.
         let small : i < s .p - 2 = ltb-true i (s .p - 2) (and-left (ltb i (s .p - 2)) (eqb j (at i)) p) in

@@ -3,7 +3,7 @@ use mathlib.Core.Path.{_≡_, sym, ap, ap₂, _∙_, subst}
 use mathlib.Core.Logic.{_≢_}
 use mathlib.Core.Bool.{true, not, _&&_, _||_}
 use Prim.Native.Nat.{ℕ, _+_, _-_, _*_, _/_, _%_, _≤_, _<_}
-use native.Mathlib.Nat.{mod-lt, mod-eq-of-lt, add-mod-right, add-comm, add-assoc, mul-le-mul}
+use native.Mathlib.Nat.{mod-lt, div-add-mod', mod-eq-of-lt, add-mod-right, add-comm, add-assoc, mul-le-mul}
 use native.Mathlib.Omega.{arith}
 use lib.Arith.{digits-div, digits-mod, digits-lt}
 use lib.Dec.{eqb, ltb, leb}
@@ -12,11 +12,12 @@ use Rattle.xor.proofs.Cases.{by-less, by-equal, and-left, and-right, and-both, 
 use Rattle.xor.proofs.Sets.{any-at, any-some}
 use Rattle.codes.specs.declared.Shape.{Shape}
 use Rattle.codes.specs.Shape.{rows, columns, equations, cells, cellNumber, WellFormed}
-use Rattle.codes.specs.Equations.{Equation, equation, rdpRow, rdpDiagonal, hcodeRow, hcodeAntiDiagonal, xcodeFirst, xcodeSecond}
+use Rattle.codes.specs.Equations.{Equation, Code, rdp, hcode, xcode, codeOf, equation, rdpDiagonal, hcodeAntiDiagonal, xcodeSecond}
 use Rattle.codes.specs.Encoded.{parityCell, sumsCell, isParity}
-use Rattle.codes.proofs.Shapes.{low, cells-high, rows-third, columns-third, equations-third, equations-other}
+use Rattle.codes.proofs.Shapes.{mostCells, mostBytes, low, cells-high, rdp-is, hcode-is, xcode-is, equations-of, first-of, second-at}
 use Rattle.codes.proofs.Residues.{wrapped, there-and-back}
-use Rattle.codes.proofs.Lines.{rdp-rows, rdp-columns, rdp-row-is, rdp-diagonal-is, hcode-rows, hcode-row-is, hcode-anti-is, xcode-first-is, xcode-second-is}
+use Rattle.codes.proofs.Lines.{rdp-rows, rdp-columns, hcode-rows, xcode-columns}
+pub use Rattle.codes.proofs.Lines.{rdp-n, hcode-n, xcode-n, xcode-rows}
 
 -- two families of n equations each
 pub families : (P : ℕ → Type 0) (n : ℕ) → ((r : ℕ) → r < n → P r) → ((d : ℕ) → d < n → P (n + d)) → (q : ℕ) → q < 2 * n → P q
@@ -34,6 +35,10 @@ module _ (s : Shape) (w : WellFormed s) where
   unfolding cellNumber
   column-is i j l = digits-div j l
 
+  pub cell-is : (c : ℕ) → cellNumber s (c % rows s) (c / rows s) ≡ c
+  unfolding cellNumber
+  cell-is c = div-add-mod' c (rows s)
+
   pub cell-inside : (i j : ℕ) → i < rows s → j < columns s → cellNumber s i j < cells s
   unfolding cellNumber cells
   cell-inside i j li lj = digits-lt lj li
@@ -43,10 +48,10 @@ module _ (s : Shape) (w : WellFormed s) where
   unfolding cellNumber
   number-is i j n e = ap (λ (x : ℕ). j * x + i) e
 
-  pub number-small : (i j n : ℕ) → n ≡ rows s → i < rows s → j < columns s → j * n + i ≤ 992
+  pub number-small : (i j n : ℕ) → n ≡ rows s → i < rows s → j < columns s → j * n + i ≤ mostCells
   number-small i j n e li lj = omega (arith, number-is i j n e, cell-inside i j li lj, cells-high s w)
 
-  pub place-small : (i j n : ℕ) → n ≡ rows s → i < rows s → j < columns s → (j * n + i) * s .cell ≤ 4063232
+  pub place-small : (i j n : ℕ) → n ≡ rows s → i < rows s → j < columns s → (j * n + i) * s .cell ≤ mostBytes
   place-small i j n e li lj = mul-le-mul (number-small i j n e li lj) (w .cellHigh)
 
   -- a cell has one row and one column
@@ -76,101 +81,106 @@ module _ (s : Shape) (w : WellFormed s) where
       let found = any-some (equations s) (λ r. eqb (parityCell s r) c) h in
       (found .0, found .1, eqb-true (parityCell s (found .0)) c (found .2))
 
-  -- from where the parity cells of both families stand to which cells they are
-  module _ (n : ℕ) (all : equations s ≡ 2 * n) (rowOf columnOf rowOf′ columnOf′ : ℕ → ℕ)
-      (first : (r : ℕ) → r < n → parityCell s r ≡ cellNumber s (rowOf r) (columnOf r)) (second : (d : ℕ) → d < n → parityCell s (n + d) ≡ cellNumber s (rowOf′ d) (columnOf′ d))
-      (small : (r : ℕ) → r < n → rowOf r < rows s) (small′ : (d : ℕ) → d < n → rowOf′ d < rows s) where
-    parity-cases : {A : Type 0} (i j : ℕ) → i < rows s → isParity s (cellNumber s i j) ≡ true
-        → ((r : ℕ) → r < n → rowOf r ≡ i → columnOf r ≡ j → A) → ((d : ℕ) → d < n → rowOf′ d ≡ i → columnOf′ d ≡ j → A) → A
-    parity-cases {A} i j li h one other =
+  -- where the code is known
+  module _ (c : Code) (is : codeOf s ≡ c) where
+    first-parity : (r : ℕ) → r < c .size → parityCell s r ≡ cellNumber s (c .first r .row) (c .first r .column)
+    first-parity r l = parity-of r (c .first r) (first-of s c is r l)
+
+    second-parity : (d : ℕ) → parityCell s (c .size + d) ≡ cellNumber s (c .second d .row) (c .second d .column)
+    second-parity d = parity-of (c .size + d) (c .second d) (second-at s c is d)
+
+    -- a parity cell is that of an equation of the first family, or of the second
+    parity-cases : {A : Type 0} (i j : ℕ) → i < rows s → ((r : ℕ) → r < c .size → (c .first r .row < rows s) × (c .second r .row < rows s)) → isParity s (cellNumber s i j) ≡ true
+        → ((r : ℕ) → r < c .size → c .first r .row ≡ i → c .first r .column ≡ j → A) → ((d : ℕ) → d < c .size → c .second d .row ≡ i → c .second d .column ≡ j → A) → A
+    parity-cases {A} i j li small h one other =
         let found = parity-some (cellNumber s i j) h in
-        families (λ q. parityCell s q ≡ cellNumber s i j → A) n
-        (λ r l e. let same = sym (first r l) ∙ e in one r l (same-row (rowOf r) (columnOf r) i j (small r l) li same) (same-column (rowOf r) (columnOf r) i j (small r l) li same))
-        (λ d l e. let same = sym (second d l) ∙ e in other d l (same-row (rowOf′ d) (columnOf′ d) i j (small′ d l) li same) (same-column (rowOf′ d) (columnOf′ d) i j (small′ d l) li same))
-        (found .0) (omega (arith, found .1, all)) (found .2)
+        families (λ q. parityCell s q ≡ cellNumber s i j → A) (c .size)
+        (λ r l e. at (c .first r) (small r l .0) (sym (first-parity r l) ∙ e) (one r l))
+        (λ d l e. at (c .second d) (small d l .1) (sym (second-parity d) ∙ e) (other d l))
+        (found .0) (omega (arith, found .1, equations-of s c is)) (found .2)
+      where
+        at : (e : Equation) → e .row < rows s → cellNumber s (e .row) (e .column) ≡ cellNumber s i j → (e .row ≡ i → e .column ≡ j → A) → A
+        at e l same k = k (same-row (e .row) (e .column) i j l li same) (same-column (e .row) (e .column) i j l li same)
+
+    -- a cell that one equation of each family sums
+    two-lines : (i j a b : ℕ) → i < rows s → a < c .size → ((r : ℕ) → r < c .size → c .first r .sums i j ≡ eqb r a) → ((d : ℕ) → d < c .size → c .second d .sums i j ≡ eqb d b)
+        → (q : ℕ) → q < equations s → sumsCell s q (cellNumber s i j) ≡ (eqb q a || eqb q (c .size + b))
+    two-lines i j a b li la one other q lq =
+        families (λ k. sumsCell s k (cellNumber s i j) ≡ (eqb k a || eqb k (c .size + b))) (c .size)
+        (λ r l. sums-of r (c .first r) (first-of s c is r l) i j li ∙ one r l
+        ∙ same-test (or-left _) (λ h. either (eqb r a) (eqb r (c .size + b)) h (λ e. e) (λ e. let same = eqb-true r (c .size + b) e in absurd (omega arith))))
+        (λ d l. sums-of (c .size + d) (c .second d) (second-at s c is d) i j li ∙ other d l
+        ∙ same-test
+        (λ h. or-right (eqb (c .size + d) a) (eq-eqb (c .size + d) (c .size + b) (ap (λ (x : ℕ). c .size + x) (eqb-true d b h))))
+        (λ h. either (eqb (c .size + d) a) (eqb (c .size + d) (c .size + b)) h
+        (λ e. let same = eqb-true (c .size + d) a e in absurd (omega arith))
+        (λ e. let same = eqb-true (c .size + d) (c .size + b) e in eq-eqb d b (omega arith))))
+        q (omega (arith, equations-of s c is))
 
   -- ---- RDP
 
   module _ (is-rdp : s .code ≡ 1) where
-    pub rdp-n : equations s ≡ 2 * (s .p - 1)
-    rdp-n = sym (equations-other s w (λ e. omega arith))
-
     pub rdp-first : (r : ℕ) → r < s .p - 1 → parityCell s r ≡ cellNumber s r (s .p - 1)
-    rdp-first r l = parity-of r (rdpRow (s .p) r) (rdp-row-is s w is-rdp r l)
+    rdp-first = first-parity (rdp (s .p)) (rdp-is s is-rdp)
 
     pub rdp-second-is : (d : ℕ) → equation s (s .p - 1 + d) ≡ rdpDiagonal (s .p) d
-    rdp-second-is d = rdp-diagonal-is s w is-rdp (s .p - 1 + d) (omega arith) ∙ ap (rdpDiagonal (s .p)) same
-      where
-        same : s .p - 1 + d - (s .p - 1) ≡ d
-        same = omega arith
+    rdp-second-is = second-at s (rdp (s .p)) (rdp-is s is-rdp)
 
     pub rdp-second : (d : ℕ) → d < s .p - 1 → parityCell s (s .p - 1 + d) ≡ cellNumber s d (s .p)
-    rdp-second d l = parity-of (s .p - 1 + d) (rdpDiagonal (s .p) d) (rdp-second-is d)
+    rdp-second d l = second-parity (rdp (s .p)) (rdp-is s is-rdp) d
 
     -- parity is in the last two columns
     pub rdp-parity : (i j : ℕ) → i < rows s → j < columns s → leb (s .p - 1) j ≡ isParity s (cellNumber s i j)
     rdp-parity i j li lj =
         same-test
-        (λ h. let lo = leb-true (s .p - 1) j h in by-equal j (s .p - 1)
-        (λ e. subst (λ (x : ℕ). isParity s (cellNumber s i x) ≡ true) (sym e) (parity-yes i (cellNumber s i (s .p - 1)) (omega (arith, rdp-n, rdp-rows s w is-rdp)) (rdp-first i (omega (arith, rdp-rows s w is-rdp)))))
-        (λ n. subst (λ (x : ℕ). isParity s (cellNumber s i x) ≡ true) (last n lo)
-        (parity-yes (s .p - 1 + i) (cellNumber s i (s .p)) (omega (arith, rdp-n, rdp-rows s w is-rdp)) (rdp-second i (omega (arith, rdp-rows s w is-rdp))))))
-        (λ h. parity-cases (s .p - 1) rdp-n (λ r. r) (λ r. s .p - 1) (λ d. d) (λ d. s .p) rdp-first rdp-second
-        (λ r l. omega (arith, rdp-rows s w is-rdp)) (λ d l. omega (arith, rdp-rows s w is-rdp)) i j li h
+        (λ h. by-equal j (s .p - 1)
+        (λ e. parity-yes i (cellNumber s i j) (omega (arith, rdp-n s w is-rdp, height)) (rdp-first i (omega (arith, height)) ∙ ap (cellNumber s i) (sym e)))
+        (λ n. parity-yes (s .p - 1 + i) (cellNumber s i j) (omega (arith, rdp-n s w is-rdp, height)) (rdp-second i (omega (arith, height)) ∙ ap (cellNumber s i) (last n (leb-true (s .p - 1) j h)))))
+        (λ h. parity-cases (rdp (s .p)) (rdp-is s is-rdp) i j li (λ r l. (omega (arith, height), omega (arith, height))) h
         (λ r l er ec. le-leb (s .p - 1) j (omega arith)) (λ d l er ec. le-leb (s .p - 1) j (omega arith)))
       where
+        height : s .p - 1 ≡ rows s
+        height = rdp-rows s w is-rdp
+
         last : j ≢ s .p - 1 → s .p - 1 ≤ j → s .p ≡ j
         last n lo = omega (arith, rdp-columns s w is-rdp)
 
     -- a data cell is in its row and on its diagonal
     pub rdp-sums : (i j : ℕ) → i < s .p - 1 → j < s .p - 1 → (q : ℕ) → q < equations s
         → sumsCell s q (cellNumber s i j) ≡ (eqb q i || eqb q (s .p - 1 + (i + j) % s .p))
-    rdp-sums i j li lj q lq =
-        families (λ k. sumsCell s k (cellNumber s i j) ≡ (eqb k i || eqb k (s .p - 1 + (i + j) % s .p))) (s .p - 1)
-        (λ r l. sums-of r (rdpRow (s .p) r) (rdp-row-is s w is-rdp r l) i j (omega (arith, rdp-rows s w is-rdp))
-        ∙ same-test
-        (λ h. or-left _ (eq-eqb r i (sym (eqb-true i r (and-left (eqb i r) (ltb j (s .p - 1)) h)))))
-        (λ h. either (eqb r i) (eqb r (s .p - 1 + (i + j) % s .p)) h
-        (λ e. and-both (eq-eqb i r (sym (eqb-true r i e))) (lt-ltb j (s .p - 1) lj))
-        (λ e. let same = eqb-true r (s .p - 1 + (i + j) % s .p) e in absurd (omega arith))))
-        (λ d l. sums-of (s .p - 1 + d) (rdpDiagonal (s .p) d) (rdp-second-is d) i j (omega (arith, rdp-rows s w is-rdp))
-        ∙ same-test
-        (λ h. or-right (eqb (s .p - 1 + d) i) (eq-eqb (s .p - 1 + d) (s .p - 1 + (i + j) % s .p)
-        (ap (λ (x : ℕ). s .p - 1 + x) (sym (eqb-true ((i + j) % s .p) d (and-right (ltb i (s .p - 1)) (eqb ((i + j) % s .p) d) (and-right (ltb j (s .p)) (ltb i (s .p - 1) && eqb ((i + j) % s .p) d) h)))))))
-        (λ h. either (eqb (s .p - 1 + d) i) (eqb (s .p - 1 + d) (s .p - 1 + (i + j) % s .p)) h
-        (λ e. let same = eqb-true (s .p - 1 + d) i e in absurd (omega arith))
-        (λ e. let same = eqb-true (s .p - 1 + d) (s .p - 1 + (i + j) % s .p) e in
-        and-both (lt-ltb j (s .p) (omega arith)) (and-both (lt-ltb i (s .p - 1) li) (eq-eqb ((i + j) % s .p) d (omega arith))))))
-        q (omega (arith, rdp-n))
+    rdp-sums i j li lj =
+        two-lines (rdp (s .p)) (rdp-is s is-rdp) i j i ((i + j) % s .p) (omega (arith, rdp-rows s w is-rdp)) li
+        (λ r l. same-test
+        (λ h. eq-eqb r i (sym (eqb-true i r (and-left (eqb i r) (ltb j (s .p - 1)) h))))
+        (λ h. and-both (eq-eqb i r (sym (eqb-true r i h))) (lt-ltb j (s .p - 1) lj)))
+        (λ d l. same-test
+        (λ h. eq-eqb d ((i + j) % s .p) (sym (eqb-true ((i + j) % s .p) d (and-right (ltb i (s .p - 1)) (eqb ((i + j) % s .p) d) (and-right (ltb j (s .p)) (ltb i (s .p - 1) && eqb ((i + j) % s .p) d) h)))))
+        (λ h. and-both (lt-ltb j (s .p) (omega arith)) (and-both (lt-ltb i (s .p - 1) li) (eq-eqb ((i + j) % s .p) d (sym (eqb-true d ((i + j) % s .p) h))))))
 
   -- ---- H-Code
 
   module _ (is-hcode : s .code ≡ 2) where
-    pub hcode-n : equations s ≡ 2 * (s .p - 1)
-    hcode-n = sym (equations-other s w (λ e. omega arith))
-
     pub hcode-first : (r : ℕ) → r < s .p - 1 → parityCell s r ≡ cellNumber s r (s .p)
-    hcode-first r l = parity-of r (hcodeRow (s .p) r) (hcode-row-is s w is-hcode r l)
+    hcode-first = first-parity (hcode (s .p)) (hcode-is s is-hcode)
 
     pub hcode-second-is : (r : ℕ) → equation s (s .p - 1 + r) ≡ hcodeAntiDiagonal (s .p) r
-    hcode-second-is r = hcode-anti-is s w is-hcode (s .p - 1 + r) (omega arith) ∙ ap (hcodeAntiDiagonal (s .p)) same
-      where
-        same : s .p - 1 + r - (s .p - 1) ≡ r
-        same = omega arith
+    hcode-second-is = second-at s (hcode (s .p)) (hcode-is s is-hcode)
 
     pub hcode-second : (r : ℕ) → r < s .p - 1 → parityCell s (s .p - 1 + r) ≡ cellNumber s r (r + 1)
-    hcode-second r l = parity-of (s .p - 1 + r) (hcodeAntiDiagonal (s .p) r) (hcode-second-is r)
+    hcode-second r l = second-parity (hcode (s .p)) (hcode-is s is-hcode) r
 
     -- parity is in the last column, and beside the diagonal
     pub hcode-parity : (i j : ℕ) → i < rows s → isParity s (cellNumber s i j) ≡ (eqb j (s .p) || eqb j (i + 1))
     hcode-parity i j li =
         same-test
-        (λ h. parity-cases (s .p - 1) hcode-n (λ r. r) (λ r. s .p) (λ r. r) (λ r. r + 1) hcode-first hcode-second
-        (λ r l. omega (arith, hcode-rows s w is-hcode)) (λ r l. omega (arith, hcode-rows s w is-hcode)) i j li h
+        (λ h. parity-cases (hcode (s .p)) (hcode-is s is-hcode) i j li (λ r l. (omega (arith, height), omega (arith, height))) h
         (λ r l er ec. or-left _ (eq-eqb j (s .p) (sym ec))) (λ r l er ec. or-right (eqb j (s .p)) (eq-eqb j (i + 1) (omega arith))))
         (λ h. either (eqb j (s .p)) (eqb j (i + 1)) h
-        (λ e. parity-yes i (cellNumber s i j) (omega (arith, hcode-n, hcode-rows s w is-hcode)) (hcode-first i (omega (arith, hcode-rows s w is-hcode)) ∙ ap (cellNumber s i) (sym (eqb-true j (s .p) e))))
-        (λ e. parity-yes (s .p - 1 + i) (cellNumber s i j) (omega (arith, hcode-n, hcode-rows s w is-hcode)) (hcode-second i (omega (arith, hcode-rows s w is-hcode)) ∙ ap (cellNumber s i) (sym (eqb-true j (i + 1) e)))))
+        (λ e. parity-yes i (cellNumber s i j) (omega (arith, hcode-n s w is-hcode, height)) (hcode-first i (omega (arith, height)) ∙ ap (cellNumber s i) (sym (eqb-true j (s .p) e))))
+        (λ e. parity-yes (s .p - 1 + i) (cellNumber s i j) (omega (arith, hcode-n s w is-hcode, height)) (hcode-second i (omega (arith, height)) ∙ ap (cellNumber s i) (sym (eqb-true j (i + 1) e)))))
+      where
+        height : s .p - 1 ≡ rows s
+        height = hcode-rows s w is-hcode
 
     -- row i and column j meet on anti-diagonal r exactly where row r and column j meet on anti-diagonal i
     mirror : (i j r : ℕ) → r < s .p - 1 → i ≡ (s .p - 2 - r + j) % s .p → j < s .p → i < s .p - 1 → r ≡ (s .p - 2 - i + j) % s .p
@@ -189,33 +199,21 @@ module _ (s : Shape) (w : WellFormed s) where
     -- a data cell is in its row and on its anti-diagonal
     pub hcode-sums : (i j : ℕ) → i < s .p - 1 → j < s .p → j ≢ i + 1 → (q : ℕ) → q < equations s
         → sumsCell s q (cellNumber s i j) ≡ (eqb q i || eqb q (s .p - 1 + (j + (s .p - 2 - i)) % s .p))
-    hcode-sums i j li lj n q lq =
-        families (λ k. sumsCell s k (cellNumber s i j) ≡ (eqb k i || eqb k (s .p - 1 + (j + (s .p - 2 - i)) % s .p))) (s .p - 1)
-        (λ r l. sums-of r (hcodeRow (s .p) r) (hcode-row-is s w is-hcode r l) i j (omega (arith, hcode-rows s w is-hcode))
-        ∙ same-test
-        (λ h. or-left _ (eq-eqb r i (sym (eqb-true i r (and-left (eqb i r) (ltb j (s .p) && not (eqb j (r + 1))) h)))))
-        (λ h. either (eqb r i) (eqb r (s .p - 1 + (j + (s .p - 2 - i)) % s .p)) h
-        (λ e. let same = eqb-true r i e in
-        and-both (eq-eqb i r (sym same)) (and-both (lt-ltb j (s .p) lj) (ap not (ne-eqb j (r + 1) (λ z. n (omega arith))))))
-        (λ e. let same = eqb-true r (s .p - 1 + (j + (s .p - 2 - i)) % s .p) e in absurd (omega arith))))
-        (λ r l. sums-of (s .p - 1 + r) (hcodeAntiDiagonal (s .p) r) (hcode-second-is r) i j (omega (arith, hcode-rows s w is-hcode))
-        ∙ same-test
+    hcode-sums i j li lj n =
+        two-lines (hcode (s .p)) (hcode-is s is-hcode) i j i ((j + (s .p - 2 - i)) % s .p) (omega (arith, hcode-rows s w is-hcode)) li
+        (λ r l. same-test
+        (λ h. eq-eqb r i (sym (eqb-true i r (and-left (eqb i r) (ltb j (s .p) && not (eqb j (r + 1))) h))))
+        (λ h. let same = eqb-true r i h in
+        and-both (eq-eqb i r (sym same)) (and-both (lt-ltb j (s .p) lj) (ap not (ne-eqb j (r + 1) (λ z. n (omega arith)))))))
+        (λ r l. same-test
         (λ h.
         let at = eqb-true i ((s .p - 2 - r + j) % s .p) (and-right (not (eqb j (r + 1))) (eqb i ((s .p - 2 - r + j) % s .p)) (and-right (ltb j (s .p)) (not (eqb j (r + 1)) && eqb i ((s .p - 2 - r + j) % s .p)) h)) in
-        or-right (eqb (s .p - 1 + r) i) (eq-eqb (s .p - 1 + r) (s .p - 1 + (j + (s .p - 2 - i)) % s .p)
-        (ap (λ (x : ℕ). s .p - 1 + x) (mirror i j r l at lj li ∙ ap (λ (x : ℕ). x % s .p) (add-comm (s .p - 2 - i) j)))))
-        (λ h. either (eqb (s .p - 1 + r) i) (eqb (s .p - 1 + r) (s .p - 1 + (j + (s .p - 2 - i)) % s .p)) h
-        (λ e. let same = eqb-true (s .p - 1 + r) i e in absurd (omega arith))
-        (λ e.
-        let same = eqb-true (s .p - 1 + r) (s .p - 1 + (j + (s .p - 2 - i)) % s .p) e in
-        let at : r ≡ (s .p - 2 - i + j) % s .p = exact r same ∙ ap (λ (x : ℕ). x % s .p) (add-comm j (s .p - 2 - i)) in
+        eq-eqb r ((j + (s .p - 2 - i)) % s .p) (mirror i j r l at lj li ∙ ap (λ (x : ℕ). x % s .p) (add-comm (s .p - 2 - i) j)))
+        (λ h.
+        let at : r ≡ (s .p - 2 - i + j) % s .p = eqb-true r ((j + (s .p - 2 - i)) % s .p) h ∙ ap (λ (x : ℕ). x % s .p) (add-comm j (s .p - 2 - i)) in
         let back : i ≡ (s .p - 2 - r + j) % s .p = mirror r j i li at lj l in
-        and-both (lt-ltb j (s .p) lj) (and-both (ap not (ne-eqb j (r + 1) (λ z. off r back z l))) (eq-eqb i ((s .p - 2 - r + j) % s .p) back)))))
-        q (omega (arith, hcode-n))
+        and-both (lt-ltb j (s .p) lj) (and-both (ap not (ne-eqb j (r + 1) (λ z. off r back z l))) (eq-eqb i ((s .p - 2 - r + j) % s .p) back))))
       where
-        exact : (r : ℕ) → s .p - 1 + r ≡ s .p - 1 + (j + (s .p - 2 - i)) % s .p → r ≡ (j + (s .p - 2 - i)) % s .p
-        exact r e = omega arith
-
         -- in column r + 1 the anti-diagonal r would be in row p - 1
         off : (r : ℕ) → i ≡ (s .p - 2 - r + j) % s .p → j ≡ r + 1 → r < s .p - 1 → ⊥
         off r e z l =
@@ -226,61 +224,47 @@ module _ (s : Shape) (w : WellFormed s) where
   -- ---- X-Code
 
   module _ (is-xcode : s .code ≡ 3) where
-    pub xcode-n : equations s ≡ 2 * s .p
-    xcode-n = sym (equations-third s is-xcode)
-
-    pub xcode-rows : s .p ≡ rows s
-    xcode-rows = rows-third s is-xcode
-
     pub xcode-first-at : (c : ℕ) → c < s .p → parityCell s c ≡ cellNumber s (s .p - 2) c
-    xcode-first-at c l = parity-of c (xcodeFirst (s .p) c) (xcode-first-is s w is-xcode c l)
+    xcode-first-at = first-parity (xcode (s .p)) (xcode-is s is-xcode)
 
     pub xcode-family-is : (c : ℕ) → equation s (s .p + c) ≡ xcodeSecond (s .p) c
-    xcode-family-is c = xcode-second-is s w is-xcode (s .p + c) (omega arith) ∙ ap (xcodeSecond (s .p)) same
-      where
-        same : s .p + c - s .p ≡ c
-        same = omega arith
+    xcode-family-is = second-at s (xcode (s .p)) (xcode-is s is-xcode)
 
     pub xcode-second-at : (c : ℕ) → c < s .p → parityCell s (s .p + c) ≡ cellNumber s (s .p - 1) c
-    xcode-second-at c l = parity-of (s .p + c) (xcodeSecond (s .p) c) (xcode-family-is c)
+    xcode-second-at c l = second-parity (xcode (s .p)) (xcode-is s is-xcode) c
 
     -- parity is in the last two rows
     pub xcode-parity : (i j : ℕ) → i < rows s → j < columns s → leb (s .p - 2) i ≡ isParity s (cellNumber s i j)
     xcode-parity i j li lj =
         same-test
-        (λ h. let lo = leb-true (s .p - 2) i h in by-equal i (s .p - 2)
-        (λ e. subst (λ (x : ℕ). isParity s (cellNumber s x j) ≡ true) (sym e) (parity-yes j (cellNumber s (s .p - 2) j) (omega (arith, xcode-n, columns-third s is-xcode)) (xcode-first-at j (omega (arith, columns-third s is-xcode)))))
-        (λ n. subst (λ (x : ℕ). isParity s (cellNumber s x j) ≡ true) (last n lo)
-        (parity-yes (s .p + j) (cellNumber s (s .p - 1) j) (omega (arith, xcode-n, columns-third s is-xcode)) (xcode-second-at j (omega (arith, columns-third s is-xcode))))))
-        (λ h. parity-cases (s .p) xcode-n (λ c. s .p - 2) (λ c. c) (λ c. s .p - 1) (λ c. c) xcode-first-at xcode-second-at
-        (λ c l. omega (arith, xcode-rows, low s w)) (λ c l. omega (arith, xcode-rows, low s w)) i j li h
+        (λ h. by-equal i (s .p - 2)
+        (λ e. parity-yes j (cellNumber s i j) (omega (arith, xcode-n s w is-xcode, width)) (xcode-first-at j (omega (arith, width)) ∙ ap (λ (x : ℕ). cellNumber s x j) (sym e)))
+        (λ n. parity-yes (s .p + j) (cellNumber s i j) (omega (arith, xcode-n s w is-xcode, width)) (xcode-second-at j (omega (arith, width)) ∙ ap (λ (x : ℕ). cellNumber s x j) (last n (leb-true (s .p - 2) i h)))))
+        (λ h. parity-cases (xcode (s .p)) (xcode-is s is-xcode) i j li
+        (λ c l. (omega (arith, xcode-rows s w is-xcode, low s w), omega (arith, xcode-rows s w is-xcode, low s w))) h
         (λ c l er ec. le-leb (s .p - 2) i (omega arith)) (λ c l er ec. le-leb (s .p - 2) i (omega arith)))
       where
+        width : s .p ≡ columns s
+        width = xcode-columns s w is-xcode
+
         last : i ≢ s .p - 2 → s .p - 2 ≤ i → s .p - 1 ≡ i
-        last n lo = omega (arith, xcode-rows, low s w)
+        last n lo = omega (arith, xcode-rows s w is-xcode, low s w)
 
     -- a data cell is on one line of each family
     pub xcode-sums : (i j : ℕ) → i < s .p - 2 → j < s .p → (q : ℕ) → q < equations s
         → sumsCell s q (cellNumber s i j) ≡ (eqb q ((j + (s .p - 2 - i)) % s .p) || eqb q (s .p + (j + (i + 2)) % s .p))
-    xcode-sums i j li lj q lq =
-        families (λ k. sumsCell s k (cellNumber s i j) ≡ (eqb k ((j + (s .p - 2 - i)) % s .p) || eqb k (s .p + (j + (i + 2)) % s .p))) (s .p)
-        (λ c l. sums-of c (xcodeFirst (s .p) c) (xcode-first-is s w is-xcode c l) i j (omega (arith, xcode-rows))
-        ∙ same-test
-        (λ h. or-left _ (eq-eqb c ((j + (s .p - 2 - i)) % s .p) (sym (turn c j (i + 2) (s .p - 2 - i) l whole
-        (eqb-true j ((c + i + 2) % s .p) (and-right (ltb i (s .p - 2)) (eqb j ((c + i + 2) % s .p)) h) ∙ ap (λ (x : ℕ). x % s .p) (add-assoc c i 2))))))
-        (λ h. either (eqb c ((j + (s .p - 2 - i)) % s .p)) (eqb c (s .p + (j + (i + 2)) % s .p)) h
-        (λ e. and-both (lt-ltb i (s .p - 2) li) (eq-eqb j ((c + i + 2) % s .p)
-        (sym (turn j c (s .p - 2 - i) (i + 2) lj whole′ (eqb-true c ((j + (s .p - 2 - i)) % s .p) e)) ∙ ap (λ (x : ℕ). x % s .p) (sym (add-assoc c i 2)))))
-        (λ e. let same = eqb-true c (s .p + (j + (i + 2)) % s .p) e in absurd (omega arith))))
-        (λ c l. sums-of (s .p + c) (xcodeSecond (s .p) c) (xcode-family-is c) i j (omega (arith, xcode-rows))
-        ∙ same-test
-        (λ h. or-right (eqb (s .p + c) ((j + (s .p - 2 - i)) % s .p)) (eq-eqb (s .p + c) (s .p + (j + (i + 2)) % s .p) (ap (λ (x : ℕ). s .p + x)
-        (sym (turn c j (s .p - 2 - i) (i + 2) l whole′ (eqb-true j ((s .p + c - i - 2) % s .p) (and-right (ltb i (s .p - 2)) (eqb j ((s .p + c - i - 2) % s .p)) h) ∙ ap (λ (x : ℕ). x % s .p) (back c)))))))
-        (λ h. either (eqb (s .p + c) ((j + (s .p - 2 - i)) % s .p)) (eqb (s .p + c) (s .p + (j + (i + 2)) % s .p)) h
-        (λ e. let same = eqb-true (s .p + c) ((j + (s .p - 2 - i)) % s .p) e in let small = mod-lt (j + (s .p - 2 - i)) {m = s .p} (omega arith) in absurd (omega arith))
-        (λ e. and-both (lt-ltb i (s .p - 2) li) (eq-eqb j ((s .p + c - i - 2) % s .p)
-        (sym (turn j c (i + 2) (s .p - 2 - i) lj whole (exact c (eqb-true (s .p + c) (s .p + (j + (i + 2)) % s .p) e))) ∙ ap (λ (x : ℕ). x % s .p) (sym (back c)))))))
-        q (omega (arith, xcode-n))
+    xcode-sums i j li lj =
+        two-lines (xcode (s .p)) (xcode-is s is-xcode) i j ((j + (s .p - 2 - i)) % s .p) ((j + (i + 2)) % s .p) (omega (arith, xcode-rows s w is-xcode)) (mod-lt (j + (s .p - 2 - i)) (omega arith))
+        (λ c l. same-test
+        (λ h. eq-eqb c ((j + (s .p - 2 - i)) % s .p) (sym (turn c j (i + 2) (s .p - 2 - i) l whole
+        (eqb-true j ((c + i + 2) % s .p) (and-right (ltb i (s .p - 2)) (eqb j ((c + i + 2) % s .p)) h) ∙ ap (λ (x : ℕ). x % s .p) (add-assoc c i 2)))))
+        (λ h. and-both (lt-ltb i (s .p - 2) li) (eq-eqb j ((c + i + 2) % s .p)
+        (sym (turn j c (s .p - 2 - i) (i + 2) lj whole′ (eqb-true c ((j + (s .p - 2 - i)) % s .p) h)) ∙ ap (λ (x : ℕ). x % s .p) (sym (add-assoc c i 2))))))
+        (λ c l. same-test
+        (λ h. eq-eqb c ((j + (i + 2)) % s .p)
+        (sym (turn c j (s .p - 2 - i) (i + 2) l whole′ (eqb-true j ((s .p + c - i - 2) % s .p) (and-right (ltb i (s .p - 2)) (eqb j ((s .p + c - i - 2) % s .p)) h) ∙ ap (λ (x : ℕ). x % s .p) (back c)))))
+        (λ h. and-both (lt-ltb i (s .p - 2) li) (eq-eqb j ((s .p + c - i - 2) % s .p)
+        (sym (turn j c (i + 2) (s .p - 2 - i) lj whole (eqb-true c ((j + (i + 2)) % s .p) h)) ∙ ap (λ (x : ℕ). x % s .p) (sym (back c))))))
       where
         whole : (i + 2) + (s .p - 2 - i) ≡ s .p
         whole = omega arith
@@ -290,9 +274,6 @@ module _ (s : Shape) (w : WellFormed s) where
 
         back : (c : ℕ) → s .p + c - i - 2 ≡ c + (s .p - 2 - i)
         back c = omega arith
-
-        exact : (c : ℕ) → s .p + c ≡ s .p + (j + (i + 2)) % s .p → c ≡ (j + (i + 2)) % s .p
-        exact c e = omega arith
 
         -- a column that is x on from c is p - x back from where it came
         turn : (c k x y : ℕ) → c < s .p → x + y ≡ s .p → k ≡ (c + x) % s .p → (k + y) % s .p ≡ c

@@ -1,15 +1,16 @@
 -- Laws of the shape: the ten primes and the three codes, one after the other; what is small.
-use mathlib.Core.Path.{_≡_, refl, sym, ap, ap₂, subst}
+use mathlib.Core.Path.{_≡_, refl, sym, ap, ap₂, _∙_, subst}
 use mathlib.Core.Logic.{_≢_, _⊎_, inl, inr, ⊎-elim}
-use mathlib.Core.Bool.{true, false, cond}
-use Prim.Native.Nat.{ℕ, _+_, _-_, _*_, _≤_}
+use mathlib.Core.Bool.{true, false}
+use Prim.Native.Nat.{ℕ, _+_, _-_, _*_, _≤_, _<_}
 use native.Mathlib.Nat.{mul-le-mul}
 use native.Mathlib.Omega.{arith}
 use lib.Dec.{eqb}
-use borrow.Author.Tests.{eqb-true}
+use borrow.Author.Tests.{eqb-true, lt-ltb, le-ltb}
 use Rattle.xor.proofs.Cases.{by-equal, either, not-passed}
 use Rattle.codes.specs.declared.Shape.{Shape}
-use Rattle.codes.specs.Shape.{listed, rows, columns, equations, cells, stripeLength, WellFormed}
+use Rattle.codes.specs.Equations.{Equation, Code, rdp, hcode, xcode, codeOf, equation}
+use Rattle.codes.specs.Shape.{lastCode, listed, mostCell, rows, columns, equations, cells, stripeLength, WellFormed}
 
 -- what holds of each of the ten primes holds of a listed number
 pub each-prime : (P : ℕ → Type 0) → P 3 → P 5 → P 7 → P 11 → P 13 → P 17 → P 19 → P 23 → P 29 → P 31 → (p : ℕ) → listed p ≡ true → P p
@@ -54,12 +55,20 @@ prime-high : (p : ℕ) → listed p ≡ true → p ≤ 31
 prime-high = each-prime (λ p. p ≤ 31) (omega arith) (omega arith) (omega arith) (omega arith) (omega arith) (omega arith) (omega arith) (omega arith) (omega arith) (omega arith)
 
 -- what holds of each of the three codes
-pub each-code : (P : ℕ → Type 0) → P 1 → P 2 → P 3 → (code : ℕ) → 1 ≤ code → code ≤ 3 → P code
+pub each-code : (P : ℕ → Type 0) → P 1 → P 2 → P 3 → (code : ℕ) → 1 ≤ code → code ≤ lastCode → P code
 each-code P x1 x2 x3 code lo hi =
     by-equal code 1 (λ e. subst P (sym e) x1) (λ n1. by-equal code 2 (λ e. subst P (sym e) x2) (λ n2. subst P (rest n1 n2) x3))
   where
     rest : code ≢ 1 → code ≢ 2 → 3 ≡ code
     rest n1 n2 = omega arith
+
+-- what holds of RDP, of H-Code and of X-Code at the stripe's prime holds of the stripe's code
+pub of-code : (P : Code → Type 0) (s : Shape) → WellFormed s → P (rdp (s .p)) → P (hcode (s .p)) → P (xcode (s .p)) → P (codeOf s)
+of-code P s w x1 x2 x3 = each-code (λ n. P (codeOf (record { code = n; p = s .p; cell = s .cell }))) x1 x2 x3 (s .code) (w .codeLow) (w .codeHigh)
+
+-- a fact that is shown for each code by itself
+pub by-code : {A : Type 0} (s : Shape) → WellFormed s → (s .code ≡ 1 → A) → (s .code ≡ 2 → A) → (s .code ≡ 3 → A) → A
+by-code {A} s w x1 x2 x3 = each-code (λ n. s .code ≡ n → A) x1 x2 x3 (s .code) (w .codeLow) (w .codeHigh) refl
 
 -- what is neither RDP nor X-Code is H-Code
 pub hcode-left : (s : Shape) → WellFormed s → s .code ≢ 1 → s .code ≢ 3 → s .code ≡ 2
@@ -69,20 +78,63 @@ hcode-left s w n1 n3 = omega (arith, w .codeLow, w .codeHigh)
 pub rdp-left : (s : Shape) → WellFormed s → s .code ≢ 3 → s .code ≢ 2 → s .code ≡ 1
 rdp-left s w n3 n2 = omega (arith, w .codeLow, w .codeHigh)
 
--- ---- rows, columns and equations, as the code works them out
+-- ---- rows, columns and equations, where the code is known
 
 module _ (s : Shape) where
+  pub rdp-is : s .code ≡ 1 → codeOf s ≡ rdp (s .p)
+  rdp-is e = rw e refl
+
+  pub hcode-is : s .code ≡ 2 → codeOf s ≡ hcode (s .p)
+  hcode-is e = rw e refl
+
+  pub xcode-is : s .code ≡ 3 → codeOf s ≡ xcode (s .p)
+  xcode-is e = rw e refl
+
+  module _ (c : Code) (is : codeOf s ≡ c) where
+    pub rows-of : c .rows ≡ rows s
+    unfolding rows
+    rows-of = ap (λ (x : Code). x .rows) (sym is)
+
+    pub columns-of : c .columns ≡ columns s
+    unfolding columns
+    columns-of = ap (λ (x : Code). x .columns) (sym is)
+
+    pub equations-of : 2 * c .size ≡ equations s
+    unfolding equations
+    equations-of = ap (λ (x : Code). 2 * x .size) (sym is)
+
+    pub extents : (c .rows ≡ rows s) × (c .columns ≡ columns s) × (2 * c .size ≡ equations s)
+    extents = (rows-of, columns-of, equations-of)
+
+    pub first-of : (q : ℕ) → q < c .size → equation s q ≡ c .first q
+    unfolding equation
+    first-of q l = rw (is, lt-ltb q (c .size) l) refl
+
+    pub second-of : (q : ℕ) → c .size ≤ q → equation s q ≡ c .second (q - c .size)
+    unfolding equation
+    second-of q l = rw (is, le-ltb q (c .size) l) refl
+
+    pub second-at : (d : ℕ) → equation s (c .size + d) ≡ c .second d
+    second-at d = second-of (c .size + d) (omega arith) ∙ ap (c .second) same
+      where
+        same : c .size + d - c .size ≡ d
+        same = omega arith
+
+  -- what is no X-Code has p - 1 rows and p + 1 columns
+  pub extents-other : WellFormed s → s .code ≢ 3 → (s .p - 1 ≡ rows s) × (s .p + 1 ≡ columns s) × (2 * (s .p - 1) ≡ equations s)
+  extents-other w n = by-equal (s .code) 1 (λ e. extents (rdp (s .p)) (rdp-is e)) (λ n1. extents (hcode (s .p)) (hcode-is (hcode-left s w n1 n)))
+
+  pub equations-other : WellFormed s → s .code ≢ 3 → 2 * (s .p - 1) ≡ equations s
+  equations-other w n = extents-other w n .2
+
   pub rows-third : s .code ≡ 3 → s .p ≡ rows s
-  unfolding rows
-  rows-third e = rw e refl
+  rows-third e = rows-of (xcode (s .p)) (xcode-is e)
 
   pub columns-third : s .code ≡ 3 → s .p ≡ columns s
-  unfolding columns
-  columns-third e = rw e refl
+  columns-third e = columns-of (xcode (s .p)) (xcode-is e)
 
   pub equations-third : s .code ≡ 3 → 2 * s .p ≡ equations s
-  unfolding equations
-  equations-third e = rw e refl
+  equations-third e = equations-of (xcode (s .p)) (xcode-is e)
 
   -- cells and bytes, as the code works them out
   pub cells-of : (a b : ℕ) → a ≡ columns s → b ≡ rows s → a * b ≡ cells s
@@ -93,52 +145,94 @@ module _ (s : Shape) where
   unfolding stripeLength
   length-of n e = ap (λ (k : ℕ). k * s .cell) e
 
-  module _ (w : WellFormed s) where
-    not-third : (P : ℕ → Type 0) → P 1 → P 2 → s .code ≢ 3 → P (s .code)
-    not-third P x1 x2 n = each-code (λ c. c ≢ 3 → P c) (λ k. x1) (λ k. x2) (λ k. absurd (k refl)) (s .code) (w .codeLow) (w .codeHigh) n
+-- ---- what is small
 
-    pub rows-other : s .code ≢ 3 → s .p - 1 ≡ rows s
-    unfolding rows
-    rows-other = not-third (λ c. s .p - 1 ≡ cond (eqb c 1) (s .p - 1) (cond (eqb c 2) (s .p - 1) (s .p))) refl refl
+-- the most rows, columns, equations, cells and bytes of a stripe
+abbrev pub mostRows : ℕ
+mostRows = 31
 
-    pub columns-other : s .code ≢ 3 → s .p + 1 ≡ columns s
-    unfolding columns
-    columns-other = not-third (λ c. s .p + 1 ≡ cond (eqb c 1) (s .p + 1) (cond (eqb c 2) (s .p + 1) (s .p))) refl refl
+abbrev pub mostColumns : ℕ
+mostColumns = 32
 
-    pub equations-other : s .code ≢ 3 → 2 * (s .p - 1) ≡ equations s
-    unfolding equations
-    equations-other = not-third (λ c. 2 * (s .p - 1) ≡ cond (eqb c 1) (2 * (s .p - 1)) (cond (eqb c 2) (2 * (s .p - 1)) (2 * s .p))) refl refl
+abbrev pub mostEquations : ℕ
+mostEquations = 62
 
-    pub low : 3 ≤ s .p
-    low = prime-low (s .p) (w .prime)
+abbrev pub mostCells : ℕ
+mostCells = 961
 
-    pub high : s .p ≤ 31
-    high = prime-high (s .p) (w .prime)
+abbrev pub mostBytes : ℕ
+mostBytes = mostCells * mostCell
 
-    -- ---- what is small
+-- what the stripes of a code keep to
+record Sized (p : ℕ) (c : Code) : Type 0 where
+  rows-low : 2 ≤ c .rows
+  rows-high : c .rows ≤ mostRows
+  wide : p ≤ c .columns
+  columns-high : c .columns ≤ mostColumns
+  equations-high : 2 * c .size ≤ mostEquations
+  cells-high : c .columns * c .rows ≤ mostCells
 
-    pub rows-low : 2 ≤ rows s
-    rows-low = by-equal (s .code) 3 (λ e. omega (arith, rows-third e, low)) (λ n. omega (arith, rows-other n, low))
+module _ (s : Shape) (w : WellFormed s) where
+  pub low : 3 ≤ s .p
+  low = prime-low (s .p) (w .prime)
 
-    pub rows-high : rows s ≤ 31
-    rows-high = by-equal (s .code) 3 (λ e. omega (arith, rows-third e, high)) (λ n. omega (arith, rows-other n, high))
+  pub high : s .p ≤ 31
+  high = prime-high (s .p) (w .prime)
 
-    pub columns-high : columns s ≤ 32
-    columns-high = by-equal (s .code) 3 (λ e. omega (arith, columns-third e, high)) (λ n. omega (arith, columns-other n, high))
-
-    pub small-equations : equations s ≤ 62
-    small-equations = by-equal (s .code) 3 (λ e. omega (arith, equations-third e, high)) (λ n. omega (arith, equations-other n, high))
-
-    pub cells-high : cells s ≤ 961
-    unfolding cells
+  -- p - 1 rows and p + 1 columns, and p of each
+  oblong : (first second : ℕ → Equation) → Sized (s .p) (record { rows = s .p - 1; columns = s .p + 1; size = s .p - 1; first = first; second = second })
+  oblong first second = record {
+    rows-low = omega (arith, low);
+    rows-high = omega (arith, high);
+    wide = omega arith;
+    columns-high = omega (arith, high);
+    equations-high = omega (arith, high);
     cells-high =
-        by-equal (s .code) 3
-        (λ e. let wide : columns s ≤ 31 = omega (arith, columns-third e, high) in mul-le-mul wide rows-high)
-        (λ n. let tall : rows s ≤ 30 = omega (arith, rows-other n, high) in omega (arith, mul-le-mul columns-high tall))
+        let width : s .p + 1 ≤ 32 = omega (arith, high) in
+        let height : s .p - 1 ≤ 30 = omega (arith, high) in
+        omega (arith, mul-le-mul width height);
+  }
 
-    pub length-high : stripeLength s ≤ 3936256
-    unfolding stripeLength
-    length-high = mul-le-mul cells-high (w .cellHigh)
+  square : (first second : ℕ → Equation) → Sized (s .p) (record { rows = s .p; columns = s .p; size = s .p; first = first; second = second })
+  square first second = record {
+    rows-low = omega (arith, low);
+    rows-high = high;
+    wide = omega arith;
+    columns-high = omega (arith, high);
+    equations-high = omega (arith, high);
+    cells-high = mul-le-mul high high;
+  }
+
+  sized : Sized (s .p) (codeOf s)
+  sized = of-code (Sized (s .p)) s w (oblong _ _) (oblong _ _) (square _ _)
+
+  pub rows-low : 2 ≤ rows s
+  unfolding rows
+  rows-low = sized .rows-low
+
+  pub rows-high : rows s ≤ mostRows
+  unfolding rows
+  rows-high = sized .rows-high
+
+  pub few-columns : s .p ≤ columns s
+  unfolding columns
+  few-columns = sized .wide
+
+  pub columns-high : columns s ≤ mostColumns
+  unfolding columns
+  columns-high = sized .columns-high
+
+  pub small-equations : equations s ≤ mostEquations
+  unfolding equations
+  small-equations = sized .equations-high
+
+  pub cells-high : cells s ≤ mostCells
+  unfolding cells rows columns
+  cells-high = sized .cells-high
+
+  pub length-high : stripeLength s ≤ mostBytes
+  unfolding stripeLength
+  length-high = mul-le-mul cells-high (w .cellHigh)
 
 -- the product of two numbers of rows or columns
 pub small-product : (a b : ℕ) → a ≤ 32 → b ≤ 32 → a * b ≤ 1024

@@ -3,7 +3,6 @@ use mathlib.Core.Bool.{Bool, cond, not, _&&_}
 use Prim.Native.Nat.{ℕ, _+_, _-_, _%_}
 use lib.Dec.{eqb, ltb}
 use Rattle.codes.specs.declared.Shape.{Shape}
-use Rattle.codes.specs.Shape.{byCode}
 
 -- an equation: the cell (row, column) is the XOR of all cells (i, j) that pass the test `sums`
 pub record Equation : Type 0 where
@@ -35,15 +34,30 @@ xcodeFirst p c = record { row = p - 2; column = c; sums = λ k j. ltb k (p - 2) 
 abbrev pub xcodeSecond : ℕ → ℕ → Equation
 xcodeSecond p c = record { row = p - 1; column = c; sums = λ k j. ltb k (p - 2) && eqb j ((p + c - k - 2) % p) }
 
--- two families of equations numbered from 0, the n of the first family first
-abbrev pub numbered : ℕ → (ℕ → Equation) → (ℕ → Equation) → ℕ → Equation
-numbered n first second q = cond (ltb q n) (first q) (second (q - n))
+-- a code at a prime: the rows and columns of its stripes, and two families of equations, `size` in each
+pub record Code : Type 0 where
+  pub rows : ℕ
+  pub columns : ℕ
+  pub size : ℕ
+  pub first : ℕ → Equation
+  pub second : ℕ → Equation
 
--- equation q of a stripe
+-- RDP: p-1 rows, p+1 columns, 2(p-1) equations
+abbrev pub rdp : ℕ → Code
+rdp p = record { rows = p - 1; columns = p + 1; size = p - 1; first = rdpRow p; second = rdpDiagonal p }
+
+-- H-Code: p-1 rows, p+1 columns, 2(p-1) equations
+abbrev pub hcode : ℕ → Code
+hcode p = record { rows = p - 1; columns = p + 1; size = p - 1; first = hcodeRow p; second = hcodeAntiDiagonal p }
+
+-- X-Code: p rows, p columns, 2p equations
+abbrev pub xcode : ℕ → Code
+xcode p = record { rows = p; columns = p; size = p; first = xcodeFirst p; second = xcodeSecond p }
+
+-- the code of a stripe: 1 is RDP, 2 is H-Code, 3 is X-Code
+abbrev pub codeOf : Shape → Code
+codeOf s = cond (eqb (s .code) 1) (rdp (s .p)) (cond (eqb (s .code) 2) (hcode (s .p)) (xcode (s .p)))
+
+-- equation q of a stripe: they are numbered from 0, first family first
 unfoldable pub equation : Shape → ℕ → Equation
-equation s q =
-    let p = s .p in
-    byCode (s .code)
-    (numbered (p - 1) (rdpRow p) (rdpDiagonal p) q)
-    (numbered (p - 1) (hcodeRow p) (hcodeAntiDiagonal p) q)
-    (numbered p (xcodeFirst p) (xcodeSecond p) q)
+equation s q = let c = codeOf s in cond (ltb q (c .size)) (c .first q) (c .second (q - c .size))

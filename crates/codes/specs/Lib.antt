@@ -1,5 +1,5 @@
-pub mod Shape
 pub mod Equations
+pub mod Shape
 pub mod Encoded
 pub mod Refusals
 pub mod Lines

@@ -1,29 +1,34 @@
 -- The shape of a stripe: document 01, "Numbers and the lent stripe".
 use mathlib.Core.Path.{_≡_}
-use mathlib.Core.Bool.{Bool, true, cond, _||_}
-use Prim.Native.Nat.{ℕ, _+_, _-_, _*_, _≤_}
+use mathlib.Core.Bool.{Bool, true, _||_}
+use Prim.Native.Nat.{ℕ, _+_, _*_, _≤_}
 use lib.Dec.{eqb}
 use Rattle.codes.specs.declared.Shape.{Shape}
+use Rattle.codes.specs.Equations.{codeOf}
+
+-- codes are numbered from 1 to this
+abbrev pub lastCode : ℕ
+lastCode = 3
 
 -- p is one of the ten primes
 unfoldable pub listed : ℕ → Bool
 listed p = eqb p 3 || eqb p 5 || eqb p 7 || eqb p 11 || eqb p 13 || eqb p 17 || eqb p 19 || eqb p 23 || eqb p 29 || eqb p 31
 
--- what is said for RDP (code 1), for H-Code (code 2) and for X-Code (code 3), by the code
-abbrev pub byCode : {A : Type 0} → ℕ → A → A → A → A
-byCode code rdp hcode xcode = cond (eqb code 1) rdp (cond (eqb code 2) hcode xcode)
+-- the most bytes that a cell may have
+abbrev pub mostCell : ℕ
+mostCell = 4096
 
 -- rows of a stripe
 unfoldable pub rows : Shape → ℕ
-rows s = byCode (s .code) (s .p - 1) (s .p - 1) (s .p)
+rows s = codeOf s .rows
 
 -- columns of a stripe
 unfoldable pub columns : Shape → ℕ
-columns s = byCode (s .code) (s .p + 1) (s .p + 1) (s .p)
+columns s = codeOf s .columns
 
--- equations of a stripe
+-- equations of a stripe, those of both families
 unfoldable pub equations : Shape → ℕ
-equations s = byCode (s .code) (2 * (s .p - 1)) (2 * (s .p - 1)) (2 * s .p)
+equations s = 2 * codeOf s .size
 
 -- cells of a stripe
 unfoldable pub cells : Shape → ℕ
@@ -40,7 +45,7 @@ stripeLength s = cells s * s .cell
 -- the three numbers are in their ranges
 pub record WellFormed (s : Shape) : Type 0 where
   pub codeLow : 1 ≤ s .code
-  pub codeHigh : s .code ≤ 3
+  pub codeHigh : s .code ≤ lastCode
   pub prime : listed (s .p) ≡ true
   pub cellLow : 1 ≤ s .cell
-  pub cellHigh : s .cell ≤ 4096
+  pub cellHigh : s .cell ≤ mostCell

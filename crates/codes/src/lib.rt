@@ -19,6 +19,13 @@ pub struct Shape {
     pub cell: usize,
 }
 
+// The rows, columns and equations of a stripe.
+struct Extent {
+    rows: usize,
+    columns: usize,
+    equations: usize,
+}
+
 // The cells of an equation: the number of its parity cell, and a line through the `count` cells whose XOR that is.
 // The line starts in a row and a column; each next cell is `fall` rows down and `step` columns on, from column p - 1 back to 0.
 struct Line {
@@ -61,16 +68,32 @@ fn is_listed(p: usize) -> bool
     }
 }
 
+// How many rows, columns and equations a stripe has: the one place that tells the codes' sizes apart.
+fn extent_of(shape: Shape) -> Extent
+    requires { ⌜ WellFormed shape ⌝ }
+    ensures { λ r. ⌜ (r .rows ≡ rows shape) × (r .columns ≡ columns shape) × (r .equations ≡ equations shape) ⌝ }
+{
+    let p = shape.p;
+    if shape.code == 3 {
+        return Extent {
+            rows: p,
+            columns: p,
+            equations: 2 * p,
+        };
+    }
+    Extent {
+        rows: p - 1,
+        columns: p + 1,
+        equations: 2 * (p - 1),
+    }
+}
+
 // Rows of a stripe.
 pub fn row_count(shape: Shape) -> usize
     requires { ⌜ WellFormed shape ⌝ }
     ensures { λ r. ⌜ r ≡ rows shape ⌝ }
 {
-    if shape.code == 3 {
-        shape.p
-    } else {
-        shape.p - 1
-    }
+    extent_of(shape).rows
 }
 
 // Columns of a stripe.
@@ -78,11 +101,7 @@ pub fn column_count(shape: Shape) -> usize
     requires { ⌜ WellFormed shape ⌝ }
     ensures { λ r. ⌜ r ≡ columns shape ⌝ }
 {
-    if shape.code == 3 {
-        shape.p
-    } else {
-        shape.p + 1
-    }
+    extent_of(shape).columns
 }
 
 // Equations of a stripe.
@@ -90,11 +109,7 @@ pub fn equation_count(shape: Shape) -> usize
     requires { ⌜ WellFormed shape ⌝ }
     ensures { λ r. ⌜ r ≡ equations shape ⌝ }
 {
-    if shape.code == 3 {
-        2 * shape.p
-    } else {
-        2 * (shape.p - 1)
-    }
+    extent_of(shape).equations
 }
 
 // Cells of a stripe.

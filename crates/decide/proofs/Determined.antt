@@ -15,7 +15,7 @@ use Rattle.codes.specs.Shape.{rows, columns, cells, WellFormed}
 use Rattle.codes.specs.Encoded.{byteAt}
 use Rattle.codes.specs.Agree.{inColumns}
 use Rattle.codes.proofs.Parity.{same-bytes}
-use Rattle.codes.proofs.TwoColumns.{two-columns-determined}
+use Rattle.columns.proofs.TwoColumns.{two-columns-determined}
 use Rattle.equation.specs.Window.{bytesAt}
 use Rattle.decide.specs.Survivors.{Undetermined}
 use Rattle.decide.specs.Solver.{summed, mended, Solver}

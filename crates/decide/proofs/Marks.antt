@@ -16,8 +16,7 @@ use Rattle.xor.proofs.Sets.{any-at, any-some}
 use Rattle.codes.specs.declared.Shape.{Shape}
 use Rattle.codes.specs.Shape.{rows, columns, cells, cellNumber, WellFormed}
 use Rattle.codes.proofs.Shapes.{rows-low, cells-high}
-use Rattle.codes.proofs.Positions.{column-is, cell-inside, number-is}
-use Rattle.codes.proofs.Columns.{cell-is}
+use Rattle.codes.proofs.Positions.{column-is, cell-is, cell-inside, number-is}
 use Rattle.decide.specs.Solver.{lostIn}
 use Rattle.codes.specs.Agree.{inColumns}
 use Rattle.decide.specs.Survivors.{named}

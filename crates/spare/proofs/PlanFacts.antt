@@ -17,7 +17,7 @@ use Rattle.bits.proofs.Bits.{bit-ones, same-bits, ones-bits}
 use Rattle.codes.specs.declared.Shape.{Shape}
 use Rattle.codes.specs.Shape.{rows, cells, cellNumber, WellFormed}
 use Rattle.codes.proofs.Shapes.{each-prime, low, rows-low}
-use Rattle.codes.proofs.Columns.{cell-is}
+use Rattle.codes.proofs.Positions.{cell-is}
 use Rattle.spare.specs.Plan.{readsCell, cellsRead, byRule, ByRule, isAccepted}
 use Rattle.spare.specs.Right.{RdpColumn}
 use Rattle.spare.proofs.Column.{last-row, last-column}

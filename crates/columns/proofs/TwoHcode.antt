@@ -9,14 +9,14 @@ use native.Mathlib.Omega.{arith}
 use lib.Dec.{eqb, ltb}
 use borrow.Author.Tests.{lt-ltb, eq-eqb, ne-eqb, ltb-true, eqb-true, eqb-false, not-true}
 use Rattle.xor.proofs.Cases.{by-equal, and-left, and-right, and-both}
 use Rattle.codes.specs.declared.Shape.{Shape}
 use Rattle.codes.specs.Shape.{rows, columns, cells, equations, WellFormed}
 use Rattle.codes.specs.Equations.{equation, hcodeRow, hcodeAntiDiagonal}
 use Rattle.codes.proofs.Residues.{there-and-back}
-use Rattle.codes.proofs.Lines.{hcode-rows, hcode-columns, hcode-row-is}
-use Rattle.codes.proofs.Positions.{families, hcode-n, hcode-second-is}
-use Rattle.codes.proofs.Paths.{shift-once, shift-from, shift-on, along-path}
-use Rattle.codes.proofs.Columns.{Meets, OnTwo, entry, entry-out, meets, balanced, all-zero}
+use Rattle.codes.proofs.Lines.{hcode-rows, hcode-columns, hcode-n, hcode-row-is}
+use Rattle.codes.proofs.Positions.{families, hcode-second-is}
+use Rattle.columns.proofs.Paths.{shift-once, shift-from, shift-on, along-path}
+use Rattle.columns.proofs.Columns.{Meets, OnTwo, entry, entry-out, meets, balanced, all-zero}
 
 -- The lines i - j = const (mod p) pass column j in the places k from 0 to p-1, and place k is row k, with two exceptions. The line of place
 -- j-1 has no equation: here p stands for no row. The line of place p-1, which is no row, has its parity cell in this column, in row j-1.

@@ -8,14 +8,14 @@ use native.Mathlib.Omega.{arith}
 use lib.Dec.{eqb, ltb}
 use borrow.Author.Tests.{lt-ltb, eq-eqb, ne-eqb, ltb-true, eqb-true}
 use Rattle.xor.proofs.Cases.{by-equal, and-left, and-right, and-both}
 use Rattle.codes.specs.declared.Shape.{Shape}
 use Rattle.codes.specs.Shape.{rows, columns, cells, equations, WellFormed}
 use Rattle.codes.specs.Equations.{Equation, equation}
-use Rattle.codes.proofs.Shapes.{low, rows-third, columns-third, equations-third}
-use Rattle.codes.proofs.Lines.{xcode-first-is}
+use Rattle.codes.proofs.Shapes.{low}
+use Rattle.codes.proofs.Lines.{xcode-rows, xcode-columns, xcode-n, xcode-first-is}
 use Rattle.codes.proofs.Positions.{families, xcode-family-is}
-use Rattle.codes.proofs.Paths.{shift-once, shift-from, shift-on, along-path}
-use Rattle.codes.proofs.Columns.{Meets, OnTwo, entry, entry-out, meets, balanced, all-zero}
+use Rattle.columns.proofs.Paths.{shift-once, shift-from, shift-on, along-path}
+use Rattle.columns.proofs.Columns.{Meets, OnTwo, entry, entry-out, meets, balanced, all-zero}
 
 -- The p lines of a family pass a column in the places k from 0 to p-1. Place k is row k; but in place p-2 stands the family's parity cell, in
 -- the row `parity` (p-2 for the first family, p-1 for the second), and in place p-1 a line has no cell: p is no row.
@@ -43,10 +43,10 @@ second s v j k = entry s v j (place (s .p) (s .p - 1) k)
 
 module _ (s : Shape) (w : WellFormed s) (is-xcode : s .code ≡ 3) where
   height : s .p ≡ rows s
-  height = rows-third s is-xcode
+  height = xcode-rows s w is-xcode
 
   width : s .p ≡ columns s
-  width = columns-third s is-xcode
+  width = xcode-columns s w is-xcode
 
   -- place p-2 of a line is in the column of its number
   around : (n : ℕ) → n < s .p → (s .p - 2 + (n + 2)) % s .p ≡ n
@@ -125,7 +125,7 @@ module _ (s : Shape) (w : WellFormed s) (is-xcode : s .code ≡ 3) where
       families (λ k. (r : ℕ) × Meets s k j r) (s .p)
       (λ c l. let at = shift-from (s .p) (c + 2) j (omega (arith, width)) in (place (s .p) (s .p - 2) (at .0), first-meets c j (at .0) l (at .1) (at .2)))
       (λ c l. let at = shift-from (s .p) (j + 2) c l in (place (s .p) (s .p - 1) (at .0), second-meets c j (at .0) l (omega (arith, width)) (at .1) (at .2)))
-      q (omega (arith, equations-third s is-xcode))
+      q (omega (arith, xcode-n s w is-xcode))
 
   -- ---- the two families in one column
 
@@ -161,7 +161,7 @@ module _ (s : Shape) (w : WellFormed s) (is-xcode : s .code ≡ 3) where
       along-first : (k : ℕ) → k < s .p → first s v a k ≡ first s v b (next k)
       along-first k l =
           balanced s w v a b h c (place (s .p) (s .p - 2) k) (place (s .p) (s .p - 2) (next k))
-          (omega (arith, equations-third s is-xcode, line-of .1)) (omega (arith, width)) (omega (arith, width))
+          (omega (arith, xcode-n s w is-xcode, line-of .1)) (omega (arith, width)) (omega (arith, width))
           (first-meets c a k (line-of .1) l meets-a) (first-meets c b (next k) (line-of .1) (next-small k) (shift-on (s .p) k (c + 2) a b ab lb meets-a))
         where
           line-of : (c : ℕ) × (c < s .p) × ((c + (k + 2)) % s .p ≡ a)
@@ -179,7 +179,7 @@ module _ (s : Shape) (w : WellFormed s) (is-xcode : s .code ≡ 3) where
       along-second : (k : ℕ) → k < s .p → second s v a (next k) ≡ second s v b k
       along-second k l =
           balanced s w v a b h (s .p + c) (place (s .p) (s .p - 1) (next k)) (place (s .p) (s .p - 1) k)
-          (omega (arith, equations-third s is-xcode, small)) (omega (arith, width)) (omega (arith, width))
+          (omega (arith, xcode-n s w is-xcode, small)) (omega (arith, width)) (omega (arith, width))
           (second-meets c a (next k) small (omega arith) (next-small k) (mod-add-mod (k + (b - a)) (s .p) (a + 2) ∙ ap (λ (n : ℕ). n % s .p) whole))
           (second-meets c b k small lb l refl)
         where

@@ -3,7 +3,7 @@ use mathlib.Core.Path.{_≡_, refl, sym, ap, ap₂, _∙_, subst}
 use mathlib.Core.Logic.{_≢_, _⊎_, inl, inr, ⊎-elim}
 use mathlib.Core.Bool.{Bool, true, false, cond}
 use Prim.Native.Nat.{ℕ, _/_, _%_, _≤_, _<_}
-use native.Mathlib.Nat.{mod-lt, div-add-mod'}
+use native.Mathlib.Nat.{mod-lt}
 use native.Mathlib.Omega.{arith}
 use lib.Dec.{eqb, ltb}
 use borrow.Author.Tests.{lt-ltb, le-ltb, eq-eqb, ne-eqb, eqb-true}
@@ -11,15 +11,15 @@ use Rattle.xor.specs.Xor.{_⊕_, xors}
 use Rattle.xor.proofs.Cases.{by-test, by-equal, by-less, clash, either}
 use Rattle.xor.proofs.Algebra.{zero-⊕, ⊕-zero, ⊕-equal}
 use Rattle.xor.proofs.Sums.{xors-zero, xors-one}
 use Rattle.codes.specs.declared.Shape.{Shape}
 use Rattle.codes.specs.Shape.{rows, columns, cells, equations, cellNumber, WellFormed}
 use Rattle.codes.specs.Equations.{Equation, equation}
 use Rattle.codes.specs.Encoded.{parityCell, sumsCell, sumOver, Solves, total}
 use Rattle.codes.specs.Holders.{holds}
 use Rattle.codes.proofs.Shapes.{rows-low}
 use Rattle.codes.proofs.Ordered.{ordered}
-use Rattle.codes.proofs.Positions.{row-is, column-is, cell-inside, parity-of, sums-of}
+use Rattle.codes.proofs.Positions.{row-is, column-is, cell-is, cell-inside, parity-of, sums-of}
 use Rattle.codes.proofs.Solutions.{plus, total-plus, total-zero, total-same}
 
 -- cell c takes part in equation q: as its parity cell, or as one that it sums
 abbrev TakesPart : Shape → ℕ → ℕ → Type 0
@@ -55,10 +55,6 @@ entry-out s v j i l = rw (le-ltb i (rows s) l) refl
 module _ (s : Shape) (w : WellFormed s) where
   pos : 0 < rows s
   pos = omega (arith, rows-low s w)
-
-  pub cell-is : (c : ℕ) → cellNumber s (c % rows s) (c / rows s) ≡ c
-  unfolding cellNumber
-  cell-is c = div-add-mod' c (rows s)
 
   -- ---- where an equation meets a column, by its row, column and test
 
@@ -125,12 +121,12 @@ module _ (s : Shape) (w : WellFormed s) where
       where
         -- a cell of column j that takes part is in row r
         in-row : (c : ℕ) → c / rows s ≡ j → TakesPart s q c → c % rows s ≡ r
-        in-row c e part = m .nowhere-else (c % rows s) (mod-lt c pos) (subst (TakesPart s q) (sym (cell-is c) ∙ ap (cellNumber s (c % rows s)) e) part)
+        in-row c e part = m .nowhere-else (c % rows s) (mod-lt c pos) (subst (TakesPart s q) (sym (cell-is s w c) ∙ ap (cellNumber s (c % rows s)) e) part)
 
         hit : r < rows s → total s q (only s j v) ≡ entry s v j r
         hit l =
             total-one q lq (only s j v) (cellNumber s r j) (cell-inside s w r j l lj) (m .there l)
-            (λ c lc part n. by-equal (c / rows s) j (λ e. absurd (n (sym (cell-is c) ∙ ap₂ (cellNumber s) (in-row c e part) e))) (only-out j c))
+            (λ c lc part n. by-equal (c / rows s) j (λ e. absurd (n (sym (cell-is s w c) ∙ ap₂ (cellNumber s) (in-row c e part) e))) (only-out j c))
             ∙ only-in j (cellNumber s r j) (column-is s w r j l) ∙ sym (entry-in s v j r l)
 
         miss : rows s ≤ r → total s q (only s j v) ≡ entry s v j r
@@ -160,4 +156,4 @@ module _ (s : Shape) (w : WellFormed s) where
       all-zero ha hb c l = by-equal (c / rows s) a (λ e. in-column a e ha) (λ n. by-equal (c / rows s) b (λ e. in-column b e hb) (h .off c l n))
         where
           in-column : (j : ℕ) → c / rows s ≡ j → ((i : ℕ) → i < rows s → entry s v j i ≡ 0) → v c ≡ 0
-          in-column j e z = ap v (sym (cell-is c) ∙ ap (cellNumber s (c % rows s)) e) ∙ sym (entry-in s v j (c % rows s) (mod-lt c pos)) ∙ z (c % rows s) (mod-lt c pos)
+          in-column j e z = ap v (sym (cell-is s w c) ∙ ap (cellNumber s (c % rows s)) e) ∙ sym (entry-in s v j (c % rows s) (mod-lt c pos)) ∙ z (c % rows s) (mod-lt c pos)

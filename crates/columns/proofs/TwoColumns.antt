@@ -6,33 +6,25 @@ use Prim.Native.Nat.{ℕ, _/_, _≤_, _<_}
 use native.Mathlib.Omega.{arith}
 use Rattle.xor.proofs.Cases.{by-equal, by-less}
 use Rattle.xor.proofs.Algebra.{⊕-equal, equal-⊕}
 use Rattle.codes.specs.declared.Shape.{Shape}
 use Rattle.codes.specs.Shape.{rows, columns, cells, equations, cellNumber, WellFormed}
 use Rattle.codes.specs.Encoded.{Solves}
 use Rattle.codes.specs.Holders.{holds}
-use Rattle.codes.proofs.Shapes.{low, columns-third, columns-other}
+use Rattle.codes.proofs.Shapes.{low, few-columns, by-code}
 use Rattle.codes.proofs.Solutions.{plus, solves-plus, solves-same}
-use Rattle.codes.proofs.Columns.{Meets, OnTwo, meets-only}
-use Rattle.codes.proofs.TwoRdp.{rdp-meets, two-rdp}
-use Rattle.codes.proofs.TwoHcode.{hcode-meets, two-hcode}
-use Rattle.codes.proofs.TwoXcode.{xcode-meets, two-xcode}
+use Rattle.columns.proofs.Columns.{Meets, OnTwo, meets-only}
+use Rattle.columns.proofs.TwoRdp.{rdp-meets, two-rdp}
+use Rattle.columns.proofs.TwoHcode.{hcode-meets, two-hcode}
+use Rattle.columns.proofs.TwoXcode.{xcode-meets, two-xcode}
 
 module _ (s : Shape) (w : WellFormed s) where
-  columns-low : 3 ≤ columns s
-  columns-low = by-equal (s .code) 3 (λ e. omega (arith, columns-third s e, low s w)) (λ n. omega (arith, columns-other s w n, low s w))
-
-  third : s .code ≢ 1 → s .code ≢ 2 → s .code ≡ 3
-  third m n = omega (arith, w .codeLow, w .codeHigh)
-
   -- every equation and every column meet in one row, or in none
   all-meet : (q j : ℕ) → q < equations s → j < columns s → (r : ℕ) × Meets s q j r
-  all-meet = by-equal (s .code) 1 (rdp-meets s w) (λ m. by-equal (s .code) 2 (hcode-meets s w) (λ n. xcode-meets s w (third m n)))
+  all-meet = by-code s w (rdp-meets s w) (hcode-meets s w) (xcode-meets s w)
 
   -- in each code
   in-order : (v : ℕ → ℕ) (a b : ℕ) → OnTwo s v a b → a < b → b < columns s → (c : ℕ) → c < cells s → v c ≡ 0
-  in-order =
-      by-equal (s .code) 1 (two-rdp s w)
-      (λ m. by-equal (s .code) 2 (two-hcode s w) (λ n. two-xcode s w (third m n)))
+  in-order = by-code s w (two-rdp s w) (two-hcode s w) (two-xcode s w)
 
   -- a solution that is 0 off two columns, or off one, is 0 everywhere
   pub two-columns : (v : ℕ → ℕ) → Solves s v → (a b : ℕ) → a < columns s → b < columns s
@@ -47,7 +39,7 @@ module _ (s : Shape) (w : WellFormed s) where
       one : a ≡ b → (c : ℕ) → c < cells s → v c ≡ 0
       one e =
           by-equal a 0
-          (λ z. forward 0 1 (omega arith) (omega (arith, columns-low)) (λ c l n m. off c l (λ q. n (q ∙ z)) (λ q. n (q ∙ sym e ∙ z))))
+          (λ z. forward 0 1 (omega arith) (omega (arith, few-columns s w, low s w)) (λ c l n m. off c l (λ q. n (q ∙ z)) (λ q. n (q ∙ sym e ∙ z))))
           (λ z. forward 0 a (omega arith) la (λ c l n m. off c l m (λ q. m (q ∙ sym e))))
 
   -- two solutions that agree off two columns agree everywhere

@@ -9,14 +9,14 @@ use native.Mathlib.Omega.{arith}
 use lib.Dec.{eqb, ltb}
 use borrow.Author.Tests.{lt-ltb, eq-eqb, ltb-true, eqb-true}
 use Rattle.xor.proofs.Cases.{by-equal, by-less, and-left, and-right, and-both}
 use Rattle.codes.specs.declared.Shape.{Shape}
 use Rattle.codes.specs.Shape.{rows, columns, cells, equations, WellFormed}
 use Rattle.codes.specs.Equations.{rdpRow, rdpDiagonal}
 use Rattle.codes.proofs.Shapes.{low}
-use Rattle.codes.proofs.Lines.{rdp-rows, rdp-columns, rdp-row-is}
-use Rattle.codes.proofs.Positions.{families, rdp-n, rdp-second-is}
-use Rattle.codes.proofs.Paths.{shift-once, shift-from, along-path}
-use Rattle.codes.proofs.Columns.{Meets, OnTwo, entry, entry-out, meets, balanced, all-zero}
+use Rattle.codes.proofs.Lines.{rdp-rows, rdp-columns, rdp-n, rdp-row-is}
+use Rattle.codes.proofs.Positions.{families, rdp-second-is}
+use Rattle.columns.proofs.Paths.{shift-once, shift-from, along-path}
+use Rattle.columns.proofs.Columns.{Meets, OnTwo, entry, entry-out, meets, balanced, all-zero}
 
 module _ (s : Shape) (w : WellFormed s) (is-rdp : s .code ≡ 1) where
   height : s .p - 1 ≡ rows s

@@ -1,0 +1,30 @@
+-- `codes::extent_of` meets its contract. By the table of document 01.
+use native.Mathlib.Omega.{arith}
+use Rattle.codes.specs.Equations.{xcode}
+use Rattle.codes.proofs.Shapes.{low, high, xcode-is, extents, extents-other}
+use Rattle.codes.proofs.extent_of.Statement.{statement}
+use Rattle.codes.proofs.extent_of.Tie as tie
+
+mul-t4 : tie.Need-mul-t4
+mul-t4 c = omega (arith, high (c .before .before .args .shape) (c .before .before .pre))
+
+returns : tie.Need-returns
+returns c = let s = c .before .before .args .shape in extents s (xcode (s .p)) (xcode-is s (c .if1 .taken))
+
+sub-t5 : tie.Need-sub-t5
+sub-t5 c = omega (arith, low (c .before .before .args .shape) (c .before .before .pre))
+
+add-t6 : tie.Need-add-t6
+add-t6 c = omega (arith, high (c .before .before .args .shape) (c .before .before .pre))
+
+sub-t7 : tie.Need-sub-t7
+sub-t7 c = omega (arith, low (c .before .before .args .shape) (c .before .before .pre))
+
+mul-t8 : tie.Need-mul-t8
+mul-t8 c = omega (arith, high (c .before .before .args .shape) (c .before .before .pre))
+
+returns-2 : tie.Need-returns-2
+returns-2 c = extents-other (c .before .before .args .shape) (c .before .before .pre) (c .if1 .left)
+
+pub extent-of-spec : {M : Type 1} → statement M
+extent-of-spec = tie.close (tie.spec mul-t4 returns sub-t5 add-t6 sub-t7 mul-t8 returns-2)
