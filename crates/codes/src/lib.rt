@@ -147,101 +147,18 @@ pub fn turned(column: usize, step: usize, p: usize) -> usize
     if p <= next { next - p } else { next }
 }
 
-// The line of equation q of RDP: rows first, then the diagonals, which hold the row parity column.
-fn rdp_line(shape: Shape, q: usize) -> Line
-    requires { ⌜ WellFormed shape × (shape .code ≡ 1) × (q < equations shape) ⌝ }
-    ensures { λ r. ⌜ Walks shape q r ⌝ }
-{
-    let p = shape.p;
-    let n = p - 1;
-    if q < n {
-        return Line {
-            parity: n * n + q,
-            count: n,
-            row: q,
-            fall: 0,
-            column: 0,
-            step: 1,
-        };
-    }
-    let d = q - n;
-    Line {
-        parity: p * n + d,
-        count: n,
-        row: 0,
-        fall: 1,
-        column: d,
-        step: n,
-    }
-}
-
-// The line of equation q of H-Code: rows first, then the anti-diagonals.
-fn hcode_line(shape: Shape, q: usize) -> Line
-    requires { ⌜ WellFormed shape × (shape .code ≡ 2) × (q < equations shape) ⌝ }
-    ensures { λ r. ⌜ Walks shape q r ⌝ }
-{
-    let p = shape.p;
-    let n = p - 1;
-    if q < n {
-        return Line {
-            parity: p * n + q,
-            count: n,
-            row: q,
-            fall: 0,
-            column: turned(q, 2, p),
-            step: 1,
-        };
-    }
-    let r = q - n;
-    Line {
-        parity: (r + 1) * n + r,
-        count: n,
-        row: 0,
-        fall: 1,
-        column: turned(r, 2, p),
-        step: 1,
-    }
-}
-
-// The line of equation q of X-Code: the first family, then the second.
-fn xcode_line(shape: Shape, q: usize) -> Line
-    requires { ⌜ WellFormed shape × (shape .code ≡ 3) × (q < equations shape) ⌝ }
-    ensures { λ r. ⌜ Walks shape q r ⌝ }
-{
-    let p = shape.p;
-    if q < p {
-        return Line {
-            parity: q * p + (p - 2),
-            count: p - 2,
-            row: 0,
-            fall: 1,
-            column: turned(q, 2, p),
-            step: 1,
-        };
-    }
-    let c = q - p;
-    Line {
-        parity: c * p + (p - 1),
-        count: p - 2,
-        row: 0,
-        fall: 1,
-        column: turned(c, p - 2, p),
-        step: p - 1,
-    }
-}
-
 // The line of equation q.
 fn line_of(shape: Shape, q: usize) -> Line
     requires { ⌜ WellFormed shape × (q < equations shape) ⌝ }
     ensures { λ r. ⌜ Walks shape q r ⌝ }
 {
     if shape.code == 1 {
-        return rdp_line(shape, q);
+        return rdp::line(shape, q);
     }
     if shape.code == 2 {
-        return hcode_line(shape, q);
+        return hcode::line(shape, q);
     }
-    xcode_line(shape, q)
+    xcode::line(shape, q)
 }
 
 // Fills in where in the stripe's bytes the cells of a line start.
@@ -379,17 +296,13 @@ pub fn is_parity(shape: Shape, row: usize, column: usize) -> bool
     requires { ⌜ WellFormed shape × (row < rows shape) × (column < columns shape) ⌝ }
     ensures { λ r. ⌜ r ≡ isParity shape (cellNumber shape row column) ⌝ }
 {
-    let p = shape.p;
     if shape.code == 1 {
-        return p - 1 <= column;
+        return rdp::is_parity(shape, row, column);
     }
-    if shape.code == 3 {
-        return p - 2 <= row;
+    if shape.code == 2 {
+        return hcode::is_parity(shape, row, column);
     }
-    if column == p {
-        return true;
-    }
-    column == row + 1
+    xcode::is_parity(shape, row, column)
 }
 
 // The set of the equations numbered a and b, where there are such.
