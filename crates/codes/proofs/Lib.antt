@@ -7,6 +7,8 @@ pub mod Ordered
 pub mod Parity
 pub mod Places
 pub mod Positions
-pub mod Depends
+pub mod Units
 pub mod Held
+pub mod Depends
+pub mod Sizes
 pub mod Solutions

@@ -5,3 +5,4 @@ pub mod TwoRdp
 pub mod TwoHcode
 pub mod TwoXcode
 pub mod TwoColumns
+pub mod Alone
