@@ -1,6 +1,7 @@
 -- The laws behind the shape of a stripe, its refusals, the walk through an equation's cells, the order of the equations, and the parity cells that depend on a data cell.
 -- Last: that any two columns of a solution are determined by the others.
 pub mod Shapes
+pub mod Order
 pub mod Refused
 pub mod Residues
 pub mod Lines
