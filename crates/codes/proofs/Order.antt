@@ -12,34 +12,34 @@ use Rattle.xor.proofs.Cases.{by-test, by-equal, clash, and-left, and-right, or-
 use Rattle.codes.specs.Refusals.{Fault, fault, order, applies, firstOf, refusal}
 
 -- whether a fault has number n
-unfoldable pub among : ℕ → List Fault → Bool
+abbrev pub among : ℕ → List Fault → Bool
 among n [] = false
 among n (f ∷ faults) = eqb (f .number) n || among n faults
 
 -- whether number m is listed, and no fault has a number that is listed before it
-unfoldable pub leads : List ℕ → ℕ → List Fault → Bool
+abbrev pub leads : List ℕ → ℕ → List Fault → Bool
 leads [] m faults = false
 leads (n ∷ numbers) m faults = eqb m n || (not (among n faults) && leads numbers m faults)
 
 -- whether faults are listed in the order of their refusals
-unfoldable pub inOrder : List Fault → Bool
+abbrev pub inOrder : List Fault → Bool
 inOrder [] = true
 inOrder (f ∷ faults) = ltb 0 (f .number) && (leads order (f .number) faults && inOrder faults)
 
 -- the number of the first fault that applies; 0 where none does
-unfoldable pub first : List Fault → ℕ
+abbrev pub first : List Fault → ℕ
 first [] = 0
 first (f ∷ faults) = cond (f .applies) (f .number) (first faults)
 
 -- no fault applies
-unfoldable pub None : List Fault → Type 0
+abbrev pub None : List Fault → Type 0
 None [] = Unit {0}
 None (f ∷ faults) = (f .applies ≡ false) × None faults
 
 -- ---- faults in order give the first that applies
 
 not-among : (n : ℕ) (faults : List Fault) → among n faults ≡ false → applies faults n ≡ false
-unfolding among applies
+unfolding applies
 not-among n [] e = refl
 not-among n (f ∷ faults) e =
     by-test (eqb (f .number) n) (λ same. clash (or-left (among n faults) same) e) (λ other. rw other (not-among n faults (rw other at e)))
@@ -56,7 +56,7 @@ left-out (n ∷ numbers) f faults off = rw (left-out numbers f faults off, off, 
 
 -- one that applies is given where no other has a number before its own
 is-given : (numbers : List ℕ) (f : Fault) (faults : List Fault) → leads numbers (f .number) faults ≡ true → f .applies ≡ true → firstOf numbers (f ∷ faults) ≡ f .number
-unfolding leads firstOf applies
+unfolding firstOf applies
 is-given [] f faults h on = clash h refl
 is-given (n ∷ numbers) f faults h on =
     by-test (eqb (f .number) n)
@@ -67,13 +67,12 @@ is-given (n ∷ numbers) f faults h on =
 
 module _ (f : Fault) (faults : List Fault) (h : inOrder (f ∷ faults) ≡ true) where
   listed-right : (0 < f .number) × (leads order (f .number) faults ≡ true) × (inOrder faults ≡ true)
-  unfolding inOrder
   listed-right =
       let rest = and-right (ltb 0 (f .number)) (leads order (f .number) faults && inOrder faults) h in
       (ltb-true 0 (f .number) (and-left (ltb 0 (f .number)) (leads order (f .number) faults && inOrder faults) h), and-left (leads order (f .number) faults) (inOrder faults) rest, and-right (leads order (f .number) faults) (inOrder faults) rest)
 
 pub in-order : (faults : List Fault) → inOrder faults ≡ true → refusal faults ≡ first faults
-unfolding refusal firstOf order applies first
+unfolding refusal firstOf order applies
 in-order [] h = refl
 in-order (f ∷ faults) h =
     by-test (f .applies)
@@ -82,7 +81,6 @@ in-order (f ∷ faults) h =
 
 -- where nothing is given none applies
 none-applies : (faults : List Fault) → inOrder faults ≡ true → first faults ≡ 0 → None faults
-unfolding first None
 none-applies [] h e = tt
 none-applies (f ∷ faults) h e =
     by-test (f .applies)
@@ -102,7 +100,7 @@ some-first zero x k = absurd (k refl)
 some-first (suc n) x k = refl
 
 first-append : (early late : List Fault) → inOrder early ≡ true → first (early ++ late) ≡ orElse (first early) (first late)
-unfolding first orElse
+unfolding orElse
 first-append [] late h = refl
 first-append (f ∷ early) late h =
     by-test (f .applies)
@@ -126,7 +124,6 @@ module _ (faults : List Fault) (h : inOrder faults ≡ true) where
 
 -- what comes after others where none of those apply
 none-late : (early late : List Fault) → None (early ++ late) → None late
-unfolding None
 none-late [] late n = n
 none-late (f ∷ early) late n = none-late early late (n .1)
 
@@ -154,15 +151,12 @@ after early late h h′ =
 -- a call's first own fault: it applies, or the next decide
 module _ {n : ℕ} {applies : Bool} {late : List Fault} where
   pub hit : applies ≡ true → Gives (fault n applies ∷ late) n
-  unfolding first
   hit on = record { given = rw on refl }
 
   pub miss : {r : ℕ} → applies ≡ false → Gives late r → Gives (fault n applies ∷ late) r
-  unfolding first
   miss off g = record { given = rw off (g .given) }
 
 pub right : Gives [] 0
-unfolding first
 right = record { given = refl }
 
 -- a number that is held to a counted bound

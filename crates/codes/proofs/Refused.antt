@@ -16,29 +16,29 @@ use Rattle.codes.specs.Shape.{rows, columns, cells, cellNumber, stripeLe
 use Rattle.codes.specs.Encoded.{isParity}
 use Rattle.codes.specs.Refusals.{fault, outside, otherLength, order, refusal, codeFaults, sizeFaults, shapeFaults, stripeFaults, writeFaults, cellsFaults, columnsFaults}
 use Rattle.codes.specs.Depends.{WriteRight}
-use Rattle.codes.proofs.Order.{among, leads, inOrder, None, Gives, After, after, alone, gives, none-of}
+use Rattle.codes.proofs.Order.{None, Gives, After, after, alone, gives, none-of}
 
 -- ---- a shape
 
 module _ (s : Shape) where
   pub code-given : {r : ℕ} → Gives (codeFaults s) r → r ≡ refusal (codeFaults s)
-  unfolding inOrder leads among order
+  unfolding order
   code-given = alone (codeFaults s) refl
 
   pub size-given : {r : ℕ} → Gives (sizeFaults s) r → r ≡ refusal (sizeFaults s)
-  unfolding inOrder leads among order
+  unfolding order
   size-given = alone (sizeFaults s) refl
 
   pub size-gives : {r : ℕ} → r ≡ refusal (sizeFaults s) → Gives (sizeFaults s) r
-  unfolding inOrder leads among order
+  unfolding order
   size-gives = gives (sizeFaults s) refl
 
   pub shape-after : After (codeFaults s) (sizeFaults s) (shapeFaults s)
-  unfolding shapeFaults inOrder leads among order
+  unfolding shapeFaults order
   shape-after = after (codeFaults s) (sizeFaults s) refl refl
 
   pub well-formed : refusal (codeFaults s) ≡ 0 → None (sizeFaults s) → WellFormed s
-  unfolding None inOrder leads among order
+  unfolding order
   well-formed none n =
       let m = none-of (codeFaults s) refl none in
       record {
@@ -57,12 +57,11 @@ module _ (s : Shape) where
 
 module _ (s : Shape) (bytes : ℕ) where
   pub stripe-after : After (shapeFaults s) (otherLength bytes (stripeLength s) ∷ []) (stripeFaults s bytes)
-  unfolding stripeFaults shapeFaults inOrder leads among order
+  unfolding stripeFaults shapeFaults order
   stripe-after = after (shapeFaults s) (otherLength bytes (stripeLength s) ∷ []) refl refl
 
   -- a stripe that is not refused is well formed, and of the right length
   pub accepted : refusal (stripeFaults s bytes) ≡ 0 → WellFormed s × (bytes ≡ stripeLength s)
-  unfolding None
   accepted none = let n = stripe-after .none none in (shape-accepted s (n .0), eqb-true bytes (stripeLength s) (not-false _ (n .1 .0)))
 
 -- ---- a small write
@@ -71,12 +70,11 @@ module _ (s : Shape) (bytes row column new : ℕ) where
   pub write-after : After (stripeFaults s bytes)
       (outside row (rows s) ∷ outside column (columns s) ∷ fault 7 (isParity s (cellNumber s row column)) ∷ fault 8 (not (eqb new (s .cell))) ∷ [])
       (writeFaults s bytes row column new)
-  unfolding writeFaults stripeFaults shapeFaults inOrder leads among order
+  unfolding writeFaults stripeFaults shapeFaults order
   write-after = after (stripeFaults s bytes) _ refl refl
 
   -- a small write that is not refused is right
   pub write-accepted : refusal (writeFaults s bytes row column new) ≡ 0 → WriteRight s bytes row column new
-  unfolding None
   write-accepted none =
       let n = write-after .none none in
       let formed = accepted s bytes (n .0) in
@@ -108,11 +106,10 @@ module _ (numbers : List ℕ) (n : ℕ) where
 
 module _ (s : Shape) (bytes : ℕ) (numbers : List ℕ) where
   pub cells-after : After (stripeFaults s bytes) (fault 6 (someOut numbers (cells s)) ∷ []) (cellsFaults s bytes numbers)
-  unfolding cellsFaults stripeFaults shapeFaults inOrder leads among order
+  unfolding cellsFaults stripeFaults shapeFaults order
   cells-after = after (stripeFaults s bytes) _ refl refl
 
   pub cells-accepted : refusal (cellsFaults s bytes numbers) ≡ 0 → WellFormed s × (bytes ≡ stripeLength s) × AllBelow numbers (cells s)
-  unfolding None
   cells-accepted none =
       let n = cells-after .none none in
       let formed = accepted s bytes (n .0) in
@@ -120,11 +117,10 @@ module _ (s : Shape) (bytes : ℕ) (numbers : List ℕ) where
 
 module _ (s : Shape) (bytes a b : ℕ) where
   pub columns-after : After (stripeFaults s bytes) (outside a (columns s) ∷ outside b (columns s) ∷ []) (columnsFaults s bytes a b)
-  unfolding columnsFaults stripeFaults shapeFaults inOrder leads among order
+  unfolding columnsFaults stripeFaults shapeFaults order
   columns-after = after (stripeFaults s bytes) _ refl refl
 
   pub columns-accepted : refusal (columnsFaults s bytes a b) ≡ 0 → WellFormed s × (bytes ≡ stripeLength s) × (a < columns s) × (b < columns s)
-  unfolding None
   columns-accepted none =
       let n = columns-after .none none in
       let formed = accepted s bytes (n .0) in

@@ -8,7 +8,7 @@ use borrow.Author.Tests.{eq-eqb, eqb-true, leb-false, not-false}
 use Rattle.codes.specs.declared.Shape.{Shape}
 use Rattle.codes.specs.Shape.{rows, columns, stripeLength, WellFormed}
 use Rattle.codes.specs.Refusals.{fault, otherLength, outside, order, refusal, codeFaults, sizeFaults}
-use Rattle.codes.proofs.Order.{among, leads, inOrder, None, After, after}
+use Rattle.codes.proofs.Order.{After, after}
 use Rattle.codes.proofs.Refused.{well-formed}
 use Rattle.spare.specs.Plan.{isAccepted}
 use Rattle.spare.specs.Refusals.{notRdp, rdpFaults, planFaults, spareFaults, runFaults, showFaults}
@@ -18,24 +18,22 @@ use Rattle.spare.specs.Right.{RdpColumn, SpareRight, RunRight}
 
 module _ (s : Shape) where
   pub rdp-after : After (codeFaults s) (notRdp s ∷ sizeFaults s) (rdpFaults s)
-  unfolding inOrder leads among order
+  unfolding order
   rdp-after = after (codeFaults s) (notRdp s ∷ sizeFaults s) refl refl
 
   -- a shape that is not refused is RDP's, and well formed
   pub rdp-accepted : refusal (rdpFaults s) ≡ 0 → WellFormed s × (s .code ≡ 1)
-  unfolding None
   rdp-accepted none = let n = rdp-after .none none in (well-formed s (n .0) (n .1 .1), eqb-true (s .code) 1 (not-false _ (n .1 .0)))
 
 -- ---- a plan
 
 module _ (s : Shape) (k : ℕ) where
   pub plan-after : After (rdpFaults s) (outside k (columns s) ∷ []) (planFaults s k)
-  unfolding planFaults inOrder leads among order
+  unfolding planFaults order
   plan-after = after (rdpFaults s) _ refl refl
 
   -- a plan that is not refused is for a column of RDP
   pub plan-accepted : refusal (planFaults s k) ≡ 0 → RdpColumn s k
-  unfolding None
   plan-accepted none =
       let n = plan-after .none none in
       let formed = rdp-accepted s (n .0) in
@@ -45,12 +43,11 @@ module _ (s : Shape) (k : ℕ) where
 
 module _ (s : Shape) (bytes spare : ℕ) where
   pub spare-after : After (rdpFaults s) (otherLength bytes (stripeLength s) ∷ otherLength spare (rows s * s .cell) ∷ []) (spareFaults s bytes spare)
-  unfolding spareFaults inOrder leads among order
+  unfolding spareFaults order
   spare-after = after (rdpFaults s) _ refl refl
 
   -- a stripe and a spare that are not refused are of RDP, and of the right length
   pub spare-accepted : refusal (spareFaults s bytes spare) ≡ 0 → WellFormed s × (s .code ≡ 1) × (bytes ≡ stripeLength s) × (spare ≡ rows s * s .cell)
-  unfolding None
   spare-accepted none =
       let n = spare-after .none none in
       let formed = rdp-accepted s (n .0) in
@@ -66,12 +63,11 @@ module _ (s : Shape) (bytes spare : ℕ) where
 
 module _ (s : Shape) (bytes spare k plan first : ℕ) where
   pub run-after : After (spareFaults s bytes spare) (outside k (columns s) ∷ outside first (s .p) ∷ fault 9 (not (isAccepted s k plan)) ∷ []) (runFaults s bytes spare k plan first)
-  unfolding runFaults spareFaults inOrder leads among order
+  unfolding runFaults spareFaults order
   run-after = after (spareFaults s bytes spare) _ refl refl
 
   -- a run that is not refused is right
   pub run-accepted : refusal (runFaults s bytes spare k plan first) ≡ 0 → RunRight s bytes spare k plan first
-  unfolding None
   run-accepted none =
       let n = run-after .none none in
       record {
@@ -93,11 +89,10 @@ module _ (s : Shape) (bytes spare k done row column : ℕ) where
   pub show-after : After (spareFaults s bytes spare)
       (outside row (rows s) ∷ outside column (columns s) ∷ outside k (columns s) ∷ outside done (s .p) ∷ fault 10 (eqb column k && leb done row) ∷ [])
       (showFaults s bytes spare k done row column)
-  unfolding showFaults spareFaults inOrder leads among order
+  unfolding showFaults spareFaults order
   show-after = after (spareFaults s bytes spare) _ refl refl
 
   pub show-accepted : refusal (showFaults s bytes spare k done row column) ≡ 0 → ShowRight s bytes spare k done row column
-  unfolding None
   show-accepted none =
       let n = show-after .none none in
       record {

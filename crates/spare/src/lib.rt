@@ -51,7 +51,8 @@ fn rdp_refusal(shape: Shape) -> usize
         return refusal;
     }
     let size = codes::size_refusal(shape);
-    if shape.code != 1 {
+    let code = shape.code;
+    if code != 1 {
         return 3;
     }
     if size != 0 {

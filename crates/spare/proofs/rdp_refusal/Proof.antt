@@ -24,17 +24,17 @@ size-refusal-requires : tie.Need-size-refusal-requires
 size-refusal-requires c κs = search needs
 
 returns-2 : tie.Need-returns-2
-returns-2 c = rdp-after (c .before .before .before .before .before .args .shape) .own (right-of (c .before .before .before)) (hit (ap not (ne-eqb _ 1 (c .if2 .taken))))
+returns-2 c = rdp-after (c .before .before .before .before .args .shape) .own (right-of (c .before .before)) (hit (ap not (ne-eqb (c .before .before .before .before .args .shape .code) 1 (c .if2 .taken))))
 
 returns-3 : tie.Need-returns-3
 returns-3 c =
-    let s = c .before .before .before .before .before .before .args .shape in
-    rdp-after s .own (right-of (c .before .before .before .before)) (miss (ap not (eq-eqb _ 1 (c .before .if2 .left))) (size-gives s (c .before .before .before .size-refusal .ensures)))
+    let s = c .before .before .before .before .before .args .shape in
+    rdp-after s .own (right-of (c .before .before .before)) (miss (ap not (eq-eqb (s .code) 1 (c .before .if2 .left))) (size-gives s (c .before .before .size-refusal .ensures)))
 
 returns-4 : tie.Need-returns-4
 returns-4 c =
-    let s = c .before .before .before .before .before .before .args .shape in
-    rdp-after s .own (right-of (c .before .before .before .before)) (miss (ap not (eq-eqb _ 1 (c .before .if2 .left))) (size-gives s (sym (c .if3 .left) ∙ c .before .before .before .size-refusal .ensures)))
+    let s = c .before .before .before .before .before .args .shape in
+    rdp-after s .own (right-of (c .before .before .before)) (miss (ap not (eq-eqb (s .code) 1 (c .before .if2 .left))) (size-gives s (sym (c .if3 .left) ∙ c .before .before .size-refusal .ensures)))
 
 pub rdp-refusal-spec : {M : Type 1} → statement M
 rdp-refusal-spec =

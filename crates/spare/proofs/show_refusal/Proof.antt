@@ -71,11 +71,15 @@ returns-6 c = past-columns (c .before .before .before) (miss (lt-leb _ _ (c .bef
 
 returns-7 : tie.Need-returns-7
 returns-7 c =
-    past-columns (c .before .before .before .before) (miss (lt-leb _ _ (c .before .before .if5 .left)) (hit (and-both (eq-eqb _ _ (c .before .if6 .left)) (le-leb _ _ (c .if7 .taken)))))
+    let a = c .before .before .before .before .before .before .before .before .before .before .before .args in
+    past-columns (c .before .before .before .before)
+    (miss (lt-leb _ _ (c .before .before .if5 .left)) (hit (and-both (eq-eqb _ _ (c .before .if6 .left)) (le-leb (a .done) (a .row) (c .if7 .taken)))))
 
 returns-8 : tie.Need-returns-8
 returns-8 c =
-    past-columns (c .before .before .before .before) (miss (lt-leb _ _ (c .before .before .if5 .left)) (miss (rw (eq-eqb _ _ (c .before .if6 .left)) (lt-leb _ _ (c .if7 .left))) right))
+    let a = c .before .before .before .before .before .before .before .before .before .before .before .args in
+    past-columns (c .before .before .before .before)
+    (miss (lt-leb _ _ (c .before .before .if5 .left)) (miss (rw (eq-eqb _ _ (c .before .if6 .left)) (lt-leb (a .done) (a .row) (c .if7 .left))) right))
 
 pub show-refusal-spec : {M : Type 1} → statement M
 show-refusal-spec =
