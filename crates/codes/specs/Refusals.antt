@@ -1,5 +1,5 @@
 -- The refusals of every call, and their order: document 01, "Refusal numbers".
-use mathlib.Core.List.{List, [], _∷_}
+use mathlib.Core.List.{List, [], _∷_, _++_}
 use mathlib.Core.Bool.{Bool, false, cond, not, _&&_, _||_}
 use Prim.Native.Nat.{ℕ}
 use lib.Dec.{eqb, leb, ltb}
@@ -32,38 +32,44 @@ firstOf (n ∷ numbers) faults = cond (applies faults n) n (firstOf numbers faul
 unfoldable pub refusal : List Fault → ℕ
 refusal faults = firstOf order faults
 
--- whether a row or a column is outside the stripe
-abbrev pub outside : Shape → ℕ → ℕ → Bool
-outside s row column = not (ltb row (rows s) && ltb column (columns s))
+-- refusal n, where the test says so
+abbrev pub fault : ℕ → Bool → Fault
+fault n applies = record { number = n; applies = applies }
+
+-- the refusals of a code and a prime
+abbrev pub codeFaults : Shape → List Fault
+codeFaults s = fault 1 (eqb (s .code) 0) ∷ fault 1 (ltb 3 (s .code)) ∷ fault 2 (not (listed (s .p))) ∷ []
+
+-- the refusals of a cell size
+abbrev pub sizeFaults : Shape → List Fault
+sizeFaults s = fault 4 (eqb (s .cell) 0) ∷ fault 4 (ltb 4096 (s .cell)) ∷ []
 
 -- the refusals of every call that is told the shape of a stripe
 unfoldable pub shapeFaults : Shape → List Fault
-shapeFaults s =
-    record { number = 1; applies = not (eqb (s .code) 1 || eqb (s .code) 2 || eqb (s .code) 3) }
-    ∷ record { number = 2; applies = not (listed (s .p)) }
-    ∷ record { number = 4; applies = not (leb 1 (s .cell) && leb (s .cell) 4096) }
-    ∷ []
+shapeFaults s = codeFaults s ++ sizeFaults s
+
+-- a buffer of so many bytes where another length is right
+abbrev pub otherLength : ℕ → ℕ → Fault
+otherLength bytes right = fault 5 (not (eqb bytes right))
 
 -- the refusals of every call on a lent stripe of so many bytes
 unfoldable pub stripeFaults : Shape → ℕ → List Fault
-stripeFaults s bytes = record { number = 5; applies = not (eqb bytes (stripeLength s)) } ∷ shapeFaults s
+stripeFaults s bytes = shapeFaults s ++ otherLength bytes (stripeLength s) ∷ []
 
--- the refusals of a small write of so many new bytes to a row and a column, besides those of the stripe
+-- a row, a column or a cell number that is not below its bound
+abbrev pub outside : ℕ → ℕ → Fault
+outside n bound = fault 6 (leb bound n)
+
+-- the refusals of a small write of so many new bytes to a row and a column
 unfoldable pub writeFaults : Shape → ℕ → ℕ → ℕ → ℕ → List Fault
 writeFaults s bytes row column new =
-    record { number = 6; applies = outside s row column }
-    ∷ record { number = 7; applies = isParity s (cellNumber s row column) }
-    ∷ record { number = 8; applies = not (eqb new (s .cell)) }
-    ∷ stripeFaults s bytes
-
--- the refusals of a call that names cells or columns, by whether one of them is outside, besides those of the stripe
-abbrev pub namingFaults : Shape → ℕ → Bool → List Fault
-namingFaults s bytes out = record { number = 6; applies = out } ∷ stripeFaults s bytes
+    stripeFaults s bytes
+    ++ outside row (rows s) ∷ outside column (columns s) ∷ fault 7 (isParity s (cellNumber s row column)) ∷ fault 8 (not (eqb new (s .cell))) ∷ []
 
 -- the refusals of a rebuild of the cells that a list names
 unfoldable pub cellsFaults : Shape → ℕ → List ℕ → List Fault
-cellsFaults s bytes numbers = namingFaults s bytes (any (length numbers) (λ k. not (ltb (getD numbers k 0) (cells s))))
+cellsFaults s bytes numbers = stripeFaults s bytes ++ fault 6 (any (length numbers) (λ k. leb (cells s) (getD numbers k 0))) ∷ []
 
 -- the refusals of a rebuild of two columns
 unfoldable pub columnsFaults : Shape → ℕ → ℕ → ℕ → List Fault
-columnsFaults s bytes a b = namingFaults s bytes (not (ltb a (columns s) && ltb b (columns s)))
+columnsFaults s bytes a b = stripeFaults s bytes ++ outside a (columns s) ∷ outside b (columns s) ∷ []

@@ -6,7 +6,7 @@ ghost use lib.ListN.{length, getD};
 ghost use Rattle.xor.specs.Runs.{Says};
 ghost use Rattle.codes.specs.Shape.{listed, rows, columns, cells, equations, cellNumber, stripeLength, WellFormed};
 ghost use Rattle.codes.specs.Encoded.{parityCell, isParity};
-ghost use Rattle.codes.specs.Refusals.{refusal, shapeFaults, stripeFaults, writeFaults, cellsFaults, columnsFaults};
+ghost use Rattle.codes.specs.Refusals.{refusal, codeFaults, sizeFaults, shapeFaults, stripeFaults, writeFaults, cellsFaults, columnsFaults};
 ghost use Rattle.codes.specs.Lines.{Lies, Walks, Placed, Found, Holding};
 ghost use Rattle.codes.specs.Depends.{DataCell, DependOn};
 ghost use Rattle.codes.specs.Holders.{HeldBy, Named};
@@ -117,9 +117,9 @@ pub fn stripe_bytes(shape: Shape) -> usize
     cell_count(shape) * shape.cell
 }
 
-// The refusal of a shape by itself: 1, 2 or 4, the lowest that applies, or 0.
-pub fn shape_refusal(shape: Shape) -> usize
-    ensures { λ r. ⌜ r ≡ refusal (shapeFaults shape) ⌝ }
+// The refusal of a code and a prime: 1 or 2, the first that applies, or 0.
+pub fn code_refusal(shape: Shape) -> usize
+    ensures { λ r. ⌜ r ≡ refusal (codeFaults shape) ⌝ }
 {
     if shape.code == 0 {
         return 1;
@@ -130,6 +130,13 @@ pub fn shape_refusal(shape: Shape) -> usize
     if !is_listed(shape.p) {
         return 2;
     }
+    0
+}
+
+// The refusal of a cell size: 4 or 0.
+pub fn size_refusal(shape: Shape) -> usize
+    ensures { λ r. ⌜ r ≡ refusal (sizeFaults shape) ⌝ }
+{
     if shape.cell == 0 {
         return 4;
     }
@@ -137,6 +144,17 @@ pub fn shape_refusal(shape: Shape) -> usize
         return 4;
     }
     0
+}
+
+// The refusal of a shape by itself: what is wrong with its code or prime, or else with its cell size, or 0.
+pub fn shape_refusal(shape: Shape) -> usize
+    ensures { λ r. ⌜ r ≡ refusal (shapeFaults shape) ⌝ }
+{
+    let refusal = code_refusal(shape);
+    if refusal != 0 {
+        return refusal;
+    }
+    size_refusal(shape)
 }
 
 // The refusal of a call on a lent stripe of so many bytes: the lowest number that applies, or 0.

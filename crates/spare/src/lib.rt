@@ -7,9 +7,9 @@ ghost use lib.Count.{ones};
 ghost use lib.ListN.{length};
 ghost use Rattle.xor.specs.Runs.{Put};
 ghost use Rattle.codes.specs.Shape.{rows, WellFormed};
-ghost use Rattle.codes.specs.Refusals.{refusal, shapeFaults};
+ghost use Rattle.codes.specs.Refusals.{refusal};
 ghost use Rattle.spare.specs.Plan.{ByRule, isAccepted};
-ghost use Rattle.spare.specs.Refusals.{notRdp, planFaults, spareFaults, runFaults, showFaults};
+ghost use Rattle.spare.specs.Refusals.{rdpFaults, planFaults, spareFaults, runFaults, showFaults};
 ghost use Rattle.spare.specs.Right.{RdpColumn, RunRight};
 ghost use Rattle.spare.specs.Places.{RowPlaces, ColumnPut, DiagonalPlaces, RowRight};
 ghost use Rattle.spare.specs.Run.{Plans, rebuiltByte, RowsRebuilt, RunsByPlan};
@@ -42,21 +42,23 @@ pub enum ShownAt {
     Refused(usize),
 }
 
-// The refusal of a shape that must be RDP's: 1, 2, 3 or 4, the lowest that applies, or 0.
+// The refusal of a shape that must be RDP's: what is wrong with its code or prime, another code, or its cell size, or 0.
 fn rdp_refusal(shape: Shape) -> usize
-    ensures { λ r. ⌜ r ≡ refusal (notRdp shape ∷ shapeFaults shape) ⌝ }
+    ensures { λ r. ⌜ r ≡ refusal (rdpFaults shape) ⌝ }
 {
-    let refusal = codes::shape_refusal(shape);
-    if refusal == 1 {
+    let refusal = codes::code_refusal(shape);
+    if refusal != 0 {
         return refusal;
     }
-    if refusal == 2 {
-        return refusal;
-    }
-    if shape.code != 1 {
+    let size = codes::size_refusal(shape);
+    let code = shape.code;
+    if code != 1 {
         return 3;
     }
-    refusal
+    if size != 0 {
+        return size;
+    }
+    0
 }
 
 // The refusal of a plan for column k: the lowest number that applies, or 0.

@@ -1,8 +1,8 @@
 -- `codes::columns_refusal` meets its contract. Each return gives the first refusal in order, by the tests before it.
 use mathlib.Core.Path.{_≡_, sym, _∙_}
-use native.Mathlib.Omega.{arith}
 use Rattle.codes.specs.Refusals.{refusal, stripeFaults}
-use Rattle.codes.proofs.Refused.{accepted, columns-first, first-out, second-out, columns-in}
+use Rattle.codes.proofs.Order.{hit, miss, right, beyond, inside}
+use Rattle.codes.proofs.Refused.{accepted, columns-after}
 use borrow.Author.Needs.{needs}
 use Rattle.codes.proofs.columns_refusal.Statement.{statement}
 use Rattle.codes.proofs.columns_refusal.Tie as tie
@@ -11,7 +11,7 @@ stripe-refusal-requires : tie.Need-stripe-refusal-requires
 stripe-refusal-requires c κs = search needs
 
 returns : tie.Need-returns
-returns c = let a = c .before .before .args in columns-first (a .shape) (a .bytes) (a .a) (a .b) _ (c .before .stripe-refusal .ensures) (c .if1 .taken)
+returns c = let a = c .before .before .args in columns-after (a .shape) (a .bytes) (a .a) (a .b) .earlier (c .before .stripe-refusal .ensures) (c .if1 .taken)
 
 -- past the first test the stripe is not refused
 right-of : (c : tie.Else1) → refusal (stripeFaults (c .before .before .args .shape) (c .before .before .args .bytes)) ≡ 0
@@ -21,19 +21,21 @@ column-count-requires : tie.Need-column-count-requires
 column-count-requires c κs = let a = c .before .before .args in accepted (a .shape) (a .bytes) (right-of c) .0
 
 returns-2 : tie.Need-returns-2
-returns-2 c = let a = c .before .before .before .before .args in first-out (a .shape) (a .bytes) (a .a) (a .b) (right-of (c .before .before)) (omega (arith, c .before .column-count .ensures, c .if2 .taken))
+returns-2 c =
+    let a = c .before .before .before .before .args in
+    columns-after (a .shape) (a .bytes) (a .a) (a .b) .own (right-of (c .before .before)) (hit (beyond (c .before .column-count .ensures) (c .if2 .taken)))
 
 returns-3 : tie.Need-returns-3
 returns-3 c =
     let a = c .before .before .before .before .before .args in
     let n = c .before .before .column-count .ensures in
-    second-out (a .shape) (a .bytes) (a .a) (a .b) (right-of (c .before .before .before)) (omega (arith, n, c .before .if2 .left)) (omega (arith, n, c .if3 .taken))
+    columns-after (a .shape) (a .bytes) (a .a) (a .b) .own (right-of (c .before .before .before)) (miss (inside n (c .before .if2 .left)) (hit (beyond n (c .if3 .taken))))
 
 returns-4 : tie.Need-returns-4
 returns-4 c =
     let a = c .before .before .before .before .before .args in
     let n = c .before .before .column-count .ensures in
-    columns-in (a .shape) (a .bytes) (a .a) (a .b) (right-of (c .before .before .before)) (omega (arith, n, c .before .if2 .left)) (omega (arith, n, c .if3 .left))
+    columns-after (a .shape) (a .bytes) (a .a) (a .b) .own (right-of (c .before .before .before)) (miss (inside n (c .before .if2 .left)) (miss (inside n (c .if3 .left)) right))
 
 pub columns-refusal-spec : {M : Type 1} → statement M
 columns-refusal-spec =

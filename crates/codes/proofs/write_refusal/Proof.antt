@@ -1,10 +1,16 @@
 -- `codes::write_refusal` meets its contract. Each return gives the first refusal in order, by the tests before it.
-use mathlib.Core.Path.{_≡_, sym, _∙_}
-use Prim.Native.Nat.{_<_}
+use mathlib.Core.Path.{_≡_, sym, ap, _∙_}
+use mathlib.Core.List.{[], _∷_}
+use mathlib.Core.Bool.{not}
+use Prim.Native.Nat.{ℕ}
 use native.Mathlib.Omega.{arith}
-use Rattle.codes.specs.Shape.{rows, columns, WellFormed}
-use Rattle.codes.specs.Refusals.{refusal, stripeFaults}
-use Rattle.codes.proofs.Refused.{accepted, stripe-first, row-outside, column-outside, to-parity, new-other, write-right}
+use lib.Dec.{eqb}
+use borrow.Author.Tests.{eq-eqb, ne-eqb}
+use Rattle.codes.specs.Shape.{cellNumber, WellFormed}
+use Rattle.codes.specs.Encoded.{isParity}
+use Rattle.codes.specs.Refusals.{fault, refusal, stripeFaults, writeFaults}
+use Rattle.codes.proofs.Order.{Gives, hit, miss, right, beyond, inside}
+use Rattle.codes.proofs.Refused.{accepted, write-after}
 use borrow.Author.Needs.{needs}
 use Rattle.codes.proofs.write_refusal.Statement.{statement}
 use Rattle.codes.proofs.write_refusal.Tie as tie
@@ -13,7 +19,7 @@ stripe-refusal-requires : tie.Need-stripe-refusal-requires
 stripe-refusal-requires c κs = search needs
 
 returns : tie.Need-returns
-returns c = stripe-first (c .before .before .args .shape) (c .before .before .args .bytes) (c .before .before .args .row) (c .before .before .args .column) (c .before .before .args .new) _ (c .before .stripe-refusal .ensures) (c .if1 .taken)
+returns c = let a = c .before .before .args in write-after (a .shape) (a .bytes) (a .row) (a .column) (a .new) .earlier (c .before .stripe-refusal .ensures) (c .if1 .taken)
 
 -- past the first test the stripe is not refused, so it is well formed
 right-of : (c : tie.Else1) → refusal (stripeFaults (c .before .before .args .shape) (c .before .before .args .bytes)) ≡ 0
@@ -22,36 +28,44 @@ right-of c = sym (c .before .stripe-refusal .ensures) ∙ c .if1 .left
 formed : (c : tie.Else1) → WellFormed (c .before .before .args .shape)
 formed c = accepted (c .before .before .args .shape) (c .before .before .args .bytes) (right-of c) .0
 
--- past the second and the third the row and the column are inside
-row-in : (c : tie.Else2) → c .before .before .before .before .args .row < rows (c .before .before .before .before .args .shape)
-row-in c = omega (arith, c .before .row-count .ensures, c .if2 .left)
-
-column-in : (c : tie.Else3) → c .before .before .before .before .before .before .args .column < columns (c .before .before .before .before .before .before .args .shape)
-column-in c = omega (arith, c .before .column-count .ensures, c .if3 .left)
-
 row-count-requires : tie.Need-row-count-requires
 row-count-requires c κs = formed c
 
 returns-2 : tie.Need-returns-2
-returns-2 c = row-outside (c .before .before .before .before .args .shape) (c .before .before .before .before .args .bytes) (c .before .before .before .before .args .row) (c .before .before .before .before .args .column) (c .before .before .before .before .args .new) (right-of (c .before .before)) (omega (arith, c .before .row-count .ensures))
+returns-2 c =
+    let a = c .before .before .before .before .args in
+    write-after (a .shape) (a .bytes) (a .row) (a .column) (a .new) .own (right-of (c .before .before)) (hit (beyond (c .before .row-count .ensures) (c .if2 .taken)))
 
 column-count-requires : tie.Need-column-count-requires
 column-count-requires c κs = formed (c .before .before)
 
 returns-3 : tie.Need-returns-3
-returns-3 c = column-outside (c .before .before .before .before .before .before .args .shape) (c .before .before .before .before .before .before .args .bytes) (c .before .before .before .before .before .before .args .row) (c .before .before .before .before .before .before .args .column) (c .before .before .before .before .before .before .args .new) (right-of (c .before .before .before .before)) (omega (arith, c .before .before .before .row-count .ensures, c .before .before .if2 .left)) (omega (arith, c .before .column-count .ensures))
+returns-3 c =
+    let a = c .before .before .before .before .before .before .args in
+    write-after (a .shape) (a .bytes) (a .row) (a .column) (a .new) .own (right-of (c .before .before .before .before))
+    (miss (inside (c .before .before .before .row-count .ensures) (c .before .before .if2 .left)) (hit (beyond (c .before .column-count .ensures) (c .if3 .taken))))
 
 is-parity-requires : tie.Need-is-parity-requires
-is-parity-requires c κs = (formed (c .before .before .before .before), row-in (c .before .before), column-in c)
+is-parity-requires c κs =
+    (formed (c .before .before .before .before), omega (arith, c .before .before .before .row-count .ensures, c .before .before .if2 .left), omega (arith, c .before .column-count .ensures, c .if3 .left))
+
+-- past the third test the cell is inside, and the tests that are left decide
+left-tests : {r : ℕ} (c : tie.Else3) → let a = c .before .before .before .before .before .before .args in
+    Gives (fault 7 (isParity (a .shape) (cellNumber (a .shape) (a .row) (a .column))) ∷ fault 8 (not (eqb (a .new) (a .shape .cell))) ∷ []) r
+    → r ≡ refusal (writeFaults (a .shape) (a .bytes) (a .row) (a .column) (a .new))
+left-tests c g =
+    let a = c .before .before .before .before .before .before .args in
+    write-after (a .shape) (a .bytes) (a .row) (a .column) (a .new) .own (right-of (c .before .before .before .before))
+    (miss (inside (c .before .before .before .row-count .ensures) (c .before .before .if2 .left)) (miss (inside (c .before .column-count .ensures) (c .if3 .left)) g))
 
 returns-4 : tie.Need-returns-4
-returns-4 c = to-parity (c .before .before .before .before .before .before .before .before .args .shape) (c .before .before .before .before .before .before .before .before .args .bytes) (c .before .before .before .before .before .before .before .before .args .row) (c .before .before .before .before .before .before .before .before .args .column) (c .before .before .before .before .before .before .before .before .args .new) (right-of (c .before .before .before .before .before .before)) (row-in (c .before .before .before .before)) (column-in (c .before .before)) (sym (c .before .is-parity .ensures) ∙ c .if4 .taken)
+returns-4 c = left-tests (c .before .before) (hit (sym (c .before .is-parity .ensures) ∙ c .if4 .taken))
 
 returns-5 : tie.Need-returns-5
-returns-5 c = new-other (c .before .before .before .before .before .before .before .before .before .before .args .shape) (c .before .before .before .before .before .before .before .before .before .before .args .bytes) (c .before .before .before .before .before .before .before .before .before .before .args .row) (c .before .before .before .before .before .before .before .before .before .before .args .column) (c .before .before .before .before .before .before .before .before .before .before .args .new) (right-of (c .before .before .before .before .before .before .before .before)) (row-in (c .before .before .before .before .before .before)) (column-in (c .before .before .before .before)) (sym (c .before .before .before .is-parity .ensures) ∙ c .before .before .if4 .left) (c .if5 .taken)
+returns-5 c = left-tests (c .before .before .before .before) (miss (sym (c .before .before .before .is-parity .ensures) ∙ c .before .before .if4 .left) (hit (ap not (ne-eqb _ _ (c .if5 .taken)))))
 
 returns-6 : tie.Need-returns-6
-returns-6 c = write-right (c .before .before .before .before .before .before .before .before .before .before .args .shape) (c .before .before .before .before .before .before .before .before .before .before .args .bytes) (c .before .before .before .before .before .before .before .before .before .before .args .row) (c .before .before .before .before .before .before .before .before .before .before .args .column) (c .before .before .before .before .before .before .before .before .before .before .args .new) (right-of (c .before .before .before .before .before .before .before .before)) (row-in (c .before .before .before .before .before .before)) (column-in (c .before .before .before .before)) (sym (c .before .before .before .is-parity .ensures) ∙ c .before .before .if4 .left) (c .if5 .left)
+returns-6 c = left-tests (c .before .before .before .before) (miss (sym (c .before .before .before .is-parity .ensures) ∙ c .before .before .if4 .left) (miss (ap not (eq-eqb _ _ (c .if5 .left))) right))
 
 pub write-refusal-spec : {M : Type 1} → statement M
 write-refusal-spec =

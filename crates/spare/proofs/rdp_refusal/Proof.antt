@@ -1,26 +1,42 @@
--- `spare::rdp_refusal` meets its contract. Refusal 3 comes after 1 and 2, and before 4.
-use native.Mathlib.Omega.{arith}
-use Rattle.spare.proofs.Refused.{one-first, two-first, other-code, is-rdp}
+-- `spare::rdp_refusal` meets its contract. What is wrong with the code or the prime comes first, then another code, then the cell size.
+use mathlib.Core.Path.{_≡_, sym, ap, _∙_}
+use mathlib.Core.Bool.{not}
+use borrow.Author.Tests.{eq-eqb, ne-eqb}
+use Rattle.codes.specs.Refusals.{refusal, codeFaults}
+use Rattle.codes.proofs.Order.{hit, miss}
+use Rattle.codes.proofs.Refused.{size-gives}
+use Rattle.spare.proofs.Refused.{rdp-after}
 use borrow.Author.Needs.{needs}
 use Rattle.spare.proofs.rdp_refusal.Statement.{statement}
 use Rattle.spare.proofs.rdp_refusal.Tie as tie
 
-shape-refusal-requires : tie.Need-shape-refusal-requires
-shape-refusal-requires c κs = search needs
+code-refusal-requires : tie.Need-code-refusal-requires
+code-refusal-requires c κs = search needs
 
 returns : tie.Need-returns
-returns c = one-first (c .before .before .args .shape) _ (c .before .shape-refusal .ensures) (c .if1 .taken)
+returns c = rdp-after (c .before .before .args .shape) .earlier (c .before .code-refusal .ensures) (c .if1 .taken)
+
+-- past the first test neither the code nor the prime is refused
+right-of : (c : tie.Else1) → refusal (codeFaults (c .before .before .args .shape)) ≡ 0
+right-of c = sym (c .before .code-refusal .ensures) ∙ c .if1 .left
+
+size-refusal-requires : tie.Need-size-refusal-requires
+size-refusal-requires c κs = search needs
 
 returns-2 : tie.Need-returns-2
-returns-2 c = two-first (c .before .before .before .args .shape) _ (c .before .before .shape-refusal .ensures) (omega (arith, c .if2 .taken))
+returns-2 c = rdp-after (c .before .before .before .before .args .shape) .own (right-of (c .before .before)) (hit (ap not (ne-eqb (c .before .before .before .before .args .shape .code) 1 (c .if2 .taken))))
 
 returns-3 : tie.Need-returns-3
-returns-3 c = other-code (c .before .before .before .before .before .args .shape) _ (c .before .before .before .before .shape-refusal .ensures) (c .before .before .before .if1 .left) (λ e. omega (arith, c .before .before .if2 .left)) (c .if3 .taken)
+returns-3 c =
+    let s = c .before .before .before .before .before .args .shape in
+    rdp-after s .own (right-of (c .before .before .before)) (miss (ap not (eq-eqb (s .code) 1 (c .before .if2 .left))) (size-gives s (c .before .before .size-refusal .ensures)))
 
 returns-4 : tie.Need-returns-4
-returns-4 c = is-rdp (c .before .before .before .before .before .args .shape) _ (c .before .before .before .before .shape-refusal .ensures) (c .if3 .left)
+returns-4 c =
+    let s = c .before .before .before .before .before .args .shape in
+    rdp-after s .own (right-of (c .before .before .before)) (miss (ap not (eq-eqb (s .code) 1 (c .before .if2 .left))) (size-gives s (sym (c .if3 .left) ∙ c .before .before .size-refusal .ensures)))
 
 pub rdp-refusal-spec : {M : Type 1} → statement M
 rdp-refusal-spec =
     tie.close
-    (tie.spec shape-refusal-requires returns returns-2 returns-3 returns-4)
+    (tie.spec code-refusal-requires returns size-refusal-requires returns-2 returns-3 returns-4)

@@ -1,0 +1,31 @@
+-- `codes::code_refusal` meets its contract. Each return gives the first refusal in order, by the tests before it.
+use mathlib.Core.Path.{sym, ap, _∙_}
+use mathlib.Core.Bool.{not}
+use borrow.Author.Tests.{eq-eqb, ne-eqb, lt-ltb, le-ltb}
+use Rattle.codes.proofs.Order.{hit, miss, right}
+use Rattle.codes.proofs.Refused.{code-given}
+use borrow.Author.Needs.{needs}
+use Rattle.codes.proofs.code_refusal.Statement.{statement}
+use Rattle.codes.proofs.code_refusal.Tie as tie
+
+returns : tie.Need-returns
+returns c = code-given (c .before .before .args .shape) (hit (eq-eqb _ 0 (c .if1 .taken)))
+
+returns-2 : tie.Need-returns-2
+returns-2 c = code-given (c .before .before .before .before .args .shape) (miss (ne-eqb _ 0 (c .before .before .if1 .left)) (hit (lt-ltb 3 _ (c .if2 .taken))))
+
+is-listed-requires : tie.Need-is-listed-requires
+is-listed-requires c κs = search needs
+
+returns-3 : tie.Need-returns-3
+returns-3 c =
+    code-given (c .before .before .before .before .before .before .args .shape)
+    (miss (ne-eqb _ 0 (c .before .before .before .before .if1 .left)) (miss (le-ltb 3 _ (c .before .before .if2 .left)) (hit (ap not (sym (c .before .is-listed .ensures)) ∙ c .if3 .taken))))
+
+returns-4 : tie.Need-returns-4
+returns-4 c =
+    code-given (c .before .before .before .before .before .before .args .shape)
+    (miss (ne-eqb _ 0 (c .before .before .before .before .if1 .left)) (miss (le-ltb 3 _ (c .before .before .if2 .left)) (miss (ap not (sym (c .before .is-listed .ensures)) ∙ c .if3 .left) right)))
+
+pub code-refusal-spec : {M : Type 1} → statement M
+code-refusal-spec = tie.close (tie.spec returns returns-2 is-listed-requires returns-3 returns-4)
