@@ -7,6 +7,10 @@ ghost use Rattle.codes.specs.Agree.{inColumns};
 ghost use Rattle.decide.specs.Survivors.{named};
 ghost use Rattle.decide.specs.Solver.{lostIn, Listed, Rows, Gathered, Decision};
 use codes::Shape;
+use solve::Eliminated;
+
+// The most cells that a stripe has.
+pub const CELLS: usize = 961;
 
 // What was decided of a set of lost cells: the survivors determine them, and this is how many there are and how many checks the survivors have to
 // pass; or they leave them open.
@@ -16,11 +20,11 @@ pub enum Decided {
 }
 
 // The map of the cells that a list names.
-pub fn mark_cells(shape: Shape, lost: &[usize]) -> [bool; 961]
+pub fn mark_cells(shape: Shape, lost: &[usize]) -> [bool; CELLS]
     requires { ⌜ WellFormed shape × ((k : ℕ) → k < length (now lost) → getD (now lost) k 0 < cells shape) ⌝ }
     ensures { λ r. ⌜ ((c : ℕ) → lostIn r c ≡ named (now (lost .entry)) c) ⌝ }
 {
-    let mut map = [false; 961];
+    let mut map = [false; CELLS];
     let mut k = 0;
     while k < lost.len() {
         map[lost[k]] = true;
@@ -30,12 +34,12 @@ pub fn mark_cells(shape: Shape, lost: &[usize]) -> [bool; 961]
 }
 
 // The map of the cells in columns a and b.
-pub fn mark_columns(shape: Shape, a: usize, b: usize) -> [bool; 961]
+pub fn mark_columns(shape: Shape, a: usize, b: usize) -> [bool; CELLS]
     requires { ⌜ WellFormed shape × (a < columns shape) × (b < columns shape) ⌝ }
     ensures { λ r. ⌜ ((c : ℕ) → c < cells shape → lostIn r c ≡ inColumns shape a b c) ⌝ }
 {
     let n = codes::row_count(shape);
-    let mut map = [false; 961];
+    let mut map = [false; CELLS];
     let mut i = 0;
     while i < n {
         map[a * n + i] = true;
@@ -46,7 +50,7 @@ pub fn mark_columns(shape: Shape, a: usize, b: usize) -> [bool; 961]
 }
 
 // Lists the lost cells by rising number. Answers how many there are, or one more than there are equations where there are more than these.
-fn list_lost(shape: Shape, map: [bool; 961], listed: &mut [usize; 64]) -> usize
+fn list_lost(shape: Shape, map: [bool; CELLS], listed: &mut [usize; solve::ROOM]) -> usize
     requires { ⌜ WellFormed shape × (length (now listed) ≡ 64) ⌝ }
     ensures { λ r. ⌜ Listed shape map r (now (listed .exit)) ⌝ }
 {
@@ -68,7 +72,12 @@ fn list_lost(shape: Shape, map: [bool; 961], listed: &mut [usize; 64]) -> usize
 }
 
 // Fills in for each equation the set of the lost cells that it holds: bit k for lost cell number k.
-fn hold_lost(shape: Shape, listed: &[usize; 64], lost: usize, rows: &mut [u64; 64])
+fn hold_lost(
+    shape: Shape,
+    listed: &[usize; solve::ROOM],
+    lost: usize,
+    rows: &mut [u64; solve::ROOM],
+)
     requires { ⌜ WellFormed shape × (lost ≤ 64) × ((k : ℕ) → k < lost → getD (now listed) k 0 < cells shape) × (length (now listed) ≡ 64) × (length (now rows) ≡ 64) × ((q : ℕ) → getD (now rows) q 0 ≡ 0) ⌝ }
     ensures { λ _. ⌜ Rows shape lost (now (listed .entry)) (now (rows .exit)) ⌝ }
 {
@@ -90,7 +99,12 @@ fn hold_lost(shape: Shape, listed: &[usize; 64], lost: usize, rows: &mut [u64; 6
 }
 
 // For each of the first n numbers of a list the source that it names.
-fn gather(list: &[usize; 64], sources: &[u64; 64], n: usize, sets: &mut [u64; 64])
+fn gather(
+    list: &[usize; solve::ROOM],
+    sources: &[u64; solve::ROOM],
+    n: usize,
+    sets: &mut [u64; solve::ROOM],
+)
     requires { ⌜ (n ≤ 64) × (length (now list) ≡ 64) × (length (now sources) ≡ 64) × (length (now sets) ≡ 64) × ((k : ℕ) → k < n → getD (now list) k 0 < 64) ⌝ }
     ensures { λ _. ⌜ Gathered (now (list .entry)) (now (sources .entry)) n (now (sets .exit)) ⌝ }
 {
@@ -105,10 +119,10 @@ fn gather(list: &[usize; 64], sources: &[u64; 64], n: usize, sets: &mut [u64; 64
 // equations that gives it, and the sets that check the survivors.
 pub fn decide(
     shape: Shape,
-    map: [bool; 961],
-    listed: &mut [usize; 64],
-    sets: &mut [u64; 64],
-    checks: &mut [u64; 64],
+    map: [bool; CELLS],
+    listed: &mut [usize; solve::ROOM],
+    sets: &mut [u64; solve::ROOM],
+    checks: &mut [u64; solve::ROOM],
 ) -> Decided
     requires { ⌜ WellFormed shape × (length (now listed) ≡ 64) × (length (now sets) ≡ 64) × (length (now checks) ≡ 64) ⌝ }
     ensures { λ r. ⌜ Decision shape (lostIn map) (now (listed .exit)) (now (sets .exit)) (now (checks .exit)) r ⌝ }
@@ -118,17 +132,19 @@ pub fn decide(
     if n < u {
         return Decided::Open;
     }
-    let mut rows = [0u64; 64];
-    let mut sources = [0u64; 64];
-    let mut chosen = [0usize; 64];
+    let mut rows = [0u64; solve::ROOM];
+    let mut sources = [0u64; solve::ROOM];
+    let mut chosen = [0usize; solve::ROOM];
     hold_lost(shape, listed, u, &mut rows);
     let e = solve::eliminate(&mut rows, &mut sources, &mut chosen, u, n);
-    let solve::Eliminated::Passed(unused) = e else {
-        return Decided::Open;
-    };
-    gather(&chosen, &sources, u, sets);
-    let mut free = [0usize; 64];
-    let v = bits::list_members(unused, 1, &mut free);
-    gather(&free, &sources, v, checks);
-    Decided::Solved { lost: u, checks: v }
+    match e {
+        Eliminated::Stopped => Decided::Open,
+        Eliminated::Passed(unused) => {
+            gather(&chosen, &sources, u, sets);
+            let mut free = [0usize; solve::ROOM];
+            let v = bits::list_members(unused, 1, &mut free);
+            gather(&free, &sources, v, checks);
+            Decided::Solved { lost: u, checks: v }
+        }
+    }
 }

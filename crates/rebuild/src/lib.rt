@@ -22,7 +22,7 @@ fn clean_or_not(shape: Shape, stripe: &[u8]) -> usize
 }
 
 // Rebuilds the lost cells of a map: 0; or 11 where they are undetermined, or 12 where no encoded stripe agrees with the survivors.
-fn rebuild_lost(shape: Shape, stripe: &mut [u8], map: [bool; 961]) -> usize
+fn rebuild_lost(shape: Shape, stripe: &mut [u8], map: [bool; decide::CELLS]) -> usize
     requires { ⌜ WellFormed shape × (length (now stripe) ≡ stripeLength shape) ⌝ }
     ensures { λ r. ⌜ Decides shape (lostIn map) (now (stripe .entry)) r (now (stripe .exit)) ⌝ }
 {

@@ -5,6 +5,9 @@ ghost use lib.ListN.{length};
 ghost use Rattle.bits.specs.Bit.{IsLowest};
 ghost use Rattle.solve.specs.Masked.{firstCell, startsAt, Holding, Spread, Own, Eliminates};
 
+// Room for the equations, and for the lost cells that they can determine.
+pub const ROOM: usize = 64;
+
 // What elimination answers: it passed all lost cells, and this is the set of the equations that it didn't use; or it stopped at one that has no equation.
 pub enum Eliminated {
     Passed(u64),
@@ -18,8 +21,8 @@ fn first_cell(row: u64) -> u32
     u64::trailing_zeros(row)
 }
 
-// The lowest unused equation whose first unsolved cell is number k; 64 where there is none.
-fn find_equation(rows: &[u64; 64], unused: u64, k: usize) -> usize
+// The lowest unused equation whose first unsolved cell is number k; ROOM where there is none.
+fn find_equation(rows: &[u64; ROOM], unused: u64, k: usize) -> usize
     requires { ⌜ length (now rows) ≡ 64 ⌝ }
     ensures { λ r. ⌜ IsLowest 64 (startsAt (now (rows .entry)) unused k) r ⌝ }
 {
@@ -31,11 +34,11 @@ fn find_equation(rows: &[u64; 64], unused: u64, k: usize) -> usize
         }
         rest = rest & (rest - 1);
     }
-    64
+    ROOM
 }
 
 // The set of the equations that hold lost cell number k.
-fn holding(rows: &[u64; 64], equations: usize, k: usize) -> u64
+fn holding(rows: &[u64; ROOM], equations: usize, k: usize) -> u64
     requires { ⌜ (length (now rows) ≡ 64) × (equations ≤ 64) × (k < 64) ⌝ }
     ensures { λ r. ⌜ Holding equations (now (rows .entry)) k r ⌝ }
 {
@@ -52,7 +55,7 @@ fn holding(rows: &[u64; 64], equations: usize, k: usize) -> u64
 }
 
 // Equation q is added to the others: what becomes of their masks, be they of lost cells or of original equations.
-fn spread(masks: &mut [u64; 64], others: u64, q: usize)
+fn spread(masks: &mut [u64; ROOM], others: u64, q: usize)
     requires { ⌜ (length (now masks) ≡ 64) × (q < 64) ⌝ }
     ensures { λ _. ⌜ Spread (now (masks .entry)) others q (now (masks .exit)) ⌝ }
 {
@@ -66,7 +69,7 @@ fn spread(masks: &mut [u64; 64], others: u64, q: usize)
 }
 
 // At first every equation is the sum of itself alone.
-fn own_sources(sources: &mut [u64; 64], equations: usize)
+fn own_sources(sources: &mut [u64; ROOM], equations: usize)
     requires { ⌜ (length (now sources) ≡ 64) × (equations ≤ 64) ⌝ }
     ensures { λ _. ⌜ Own equations (now (sources .exit)) ⌝ }
 {
@@ -80,9 +83,9 @@ fn own_sources(sources: &mut [u64; 64], equations: usize)
 // The elimination method. Lent: `rows`, at q the set of the lost cells that equation q holds, which is used up; `sources`, left at q: the
 // set of the original equations that q is now the sum of; `chosen`, left at k: the equation chosen for lost cell number k.
 pub fn eliminate(
-    rows: &mut [u64; 64],
-    sources: &mut [u64; 64],
-    chosen: &mut [usize; 64],
+    rows: &mut [u64; ROOM],
+    sources: &mut [u64; ROOM],
+    chosen: &mut [usize; ROOM],
     lost: usize,
     equations: usize,
 ) -> Eliminated
@@ -94,7 +97,7 @@ pub fn eliminate(
     let mut k = 0;
     while k < lost {
         let q = find_equation(rows, unused, k);
-        if q == 64 {
+        if q == ROOM {
             return Eliminated::Stopped;
         }
         let one = bits::one_bit(q);

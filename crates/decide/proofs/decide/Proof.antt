@@ -37,16 +37,11 @@ eliminate-requires c κs =
     let entry = left .before .before .before .before in
     (c .before .before .before .hold-lost .ensures .long, refl, refl, few-in left, omega (arith, left .before .equation-count .ensures, small-equations (entry .args .shape) (entry .pre .0)))
 
-enum-known-e : tie.Need-enum-known-e
-enum-known-e c = search needs
-
 enum-told : tie.Need-enum-told
 enum-told c = search needs
 
-returns-2 : tie.Need-returns-2
-returns-2 c =
-    let at = c .before .before in
-    decision-open _ (at .before .before .before .before .before .before .before .before .before .before .before .pre .0) _ _ _ (at .before .before .before .before .before .before .before .before .before .list-lost .ensures) (few (at .before .before .before .before .before .before .before)) _ (at .before .before .before .before .hold-lost .ensures) _ _ _ _ (at .before .before .before .before .before .before .before .before .equation-count .ensures) (at .eliminate .ensures) (c .enum-told .given .1)
+enum-known-e : tie.Need-enum-known-e
+enum-known-e c = search needs
 
 gather-requires : tie.Need-gather-requires
 gather-requires c κs =
@@ -68,6 +63,11 @@ gather-requires-2 c κs =
     let at = c .before .before .before .before .before .before .before .before .before .before .before .before in
     (members .few, members .long, at .eliminate .ensures .longSources, at .before .before .before .before .before .before .before .before .before .before .before .pre .3, λ k l. let found = members .member k l in omega (arith, found .1, found .3))
 
+returns-2 : tie.Need-returns-2
+returns-2 c =
+    let at = c .before .before in
+    decision-open _ (at .before .before .before .before .before .before .before .before .before .before .before .pre .0) _ _ _ (at .before .before .before .before .before .before .before .before .before .list-lost .ensures) (few (at .before .before .before .before .before .before .before)) _ (at .before .before .before .before .hold-lost .ensures) _ _ _ _ (at .before .before .before .before .before .before .before .before .equation-count .ensures) (at .eliminate .ensures) (c .enum-told .given .1)
+
 returns-3 : tie.Need-returns-3
 returns-3 c =
     let passed = c .before .before .before .before .before .before .before .before .before .before .before in
@@ -84,10 +84,10 @@ decide-spec =
     returns
     hold-lost-requires
     eliminate-requires
-    enum-known-e
     enum-told
-    returns-2
+    enum-known-e
     gather-requires
     list-members-requires
     gather-requires-2
+    returns-2
     returns-3)
