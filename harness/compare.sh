@@ -25,12 +25,12 @@ if [ -z "$LIB" ]; then
     (cd "$ROOT" && rt staticlib zijraduf)
     LIB=$ROOT/target/staticlib/libzijraduf.a
 fi
-mkdir -p "$BUILD"
+kit_room
+kit_second
 kit_cc "$ROOT/harness/bridge.c" "$BUILD/bridge.o" -I"$ROOT/include"
 kit_link "$BUILD/bridge" "$BUILD/bridge.o" "$LIB"
-rustc --edition 2021 -O -o "$BUILD/compare" "$ROOT/harness/compare/main.rs"
 
 # A call that faults is reported; it leaves no core file behind.
 ulimit -c 0 2>/dev/null || :
 # OPTIONS holds plain words only: left unquoted to be split.
-"$BUILD/compare" $OPTIONS -- ${EMULATOR:+"$EMULATOR"} "$LOADER" --library-path "$TOOLS/lib" "$BUILD/bridge"
+"$SECOND" $OPTIONS -- ${EMULATOR:+"$EMULATOR"} "$LOADER" --library-path "$TOOLS/lib" "$BUILD/bridge"

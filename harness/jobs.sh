@@ -25,11 +25,10 @@ if [ -z "$PROGRAM" ]; then
     (cd "$ROOT" && rt check job) >&2
     PROGRAM=$ROOT/target/bin/job
 fi
-mkdir -p "$BUILD"
-rustc --edition 2021 -O -o "$BUILD/compare" "$ROOT/harness/compare/main.rs"
+kit_second
 
 # A program that faults is reported; it leaves no core file behind.
 ulimit -c 0 2>/dev/null || :
 # One that doesn't end is ended. OPTIONS holds plain words only: left unquoted to be split.
-"$BUILD/compare" --jobs "$JOBS" $OPTIONS -- timeout 60 \
+"$SECOND" --jobs "$JOBS" $OPTIONS -- timeout 60 \
     ${EMULATOR:+"$EMULATOR"} "$LOADER" --library-path "$TOOLS/lib" "$PROGRAM"

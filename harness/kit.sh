@@ -3,7 +3,7 @@
 #
 #   KIT, TOOLS        the kit, and its tools for this machine
 #   LOADER, EMULATOR  what starts an x86-64 program; EMULATOR is empty on x86-64
-#   BUILD             where build output goes
+#   BUILD             where build output goes: set it, or have kit_room make a folder
 
 KIT=$(rt doc)
 KIT=$(dirname "$(dirname "$KIT")")
@@ -11,7 +11,25 @@ TOOLS=$KIT/on/$(uname -m)/toolchain
 LOADER=$TOOLS/lib/ld-linux-x86-64.so.2
 EMULATOR=$TOOLS/bin/qemu-x86_64
 [ -x "$EMULATOR" ] || EMULATOR=
-BUILD=$ROOT/target/harness
+
+# kit_room: makes BUILD a folder of this run alone, gone when the script ends.
+kit_room() {
+    BUILD=$(mktemp -d)
+    trap 'rm -rf "$BUILD"' EXIT
+    trap 'exit 1' HUP INT TERM
+}
+
+# kit_second: makes SECOND the independent second program, built once for its sources.
+kit_second() {
+    kit_sum=$({ rustc --version && cat "$ROOT"/harness/compare/*.rs; } | sha256sum | cut -c 1-16)
+    SECOND=$ROOT/target/second/$kit_sum
+    [ ! -x "$SECOND" ] || return 0
+    kit_new=$ROOT/target/second/new.$$
+    mkdir -p "$kit_new"
+    rustc --edition 2021 -O -o "$kit_new/compare" "$ROOT/harness/compare/main.rs"
+    mv "$kit_new/compare" "$SECOND"
+    rm -rf "$kit_new"
+}
 
 # The kit's clang comes without headers: stand-ins made of what it predefines.
 kit_headers() {

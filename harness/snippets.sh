@@ -1,13 +1,21 @@
 #!/bin/sh
 # Tests the README's snippets: the one in C is compiled against the header and the library and run, the one in Rattle is the program that the
 # toolchain proves and runs, the one with a job prints what it says, and the example's output is what the example prints.
+#
+#   harness/snippets.sh [--lib FILE]
+#
+# Without --lib the library is the one that was built last; where there is none it is proved and built first.
 set -eu
 ROOT=$(cd "$(dirname "$0")/.." && pwd)
 . "$ROOT/harness/kit.sh"
 LIB=$ROOT/target/staticlib/libzijraduf.a
-[ -f "$LIB" ] || (cd "$ROOT" && rt staticlib zijraduf)
+case ${1:-} in
+'') [ -f "$LIB" ] || (cd "$ROOT" && rt staticlib zijraduf) ;;
+--lib) LIB=${2:?--lib wants a file} ;;
+*) echo 'usage: harness/snippets.sh [--lib FILE]' >&2; exit 2 ;;
+esac
 [ -f "$ROOT/target/bin/job" ] || (cd "$ROOT" && rt check job)
-mkdir -p "$BUILD"
+kit_room
 
 # snippet KIND FILE: the README's block of a kind.
 snippet() {
