@@ -1,48 +1,97 @@
--- The equations whose parity cells depend on a data cell, code by code.
-use mathlib.Core.Path.{_≡_, refl, sym, ap, ap₂, _∙_}
+-- The equations whose parity cells depend on a data cell: those that hold it, and in RDP the diagonal that sums the parity cell of its row.
+use mathlib.Core.Path.{_≡_, refl, sym, ap, ap₂, _∙_, subst}
 use mathlib.Core.Logic.{_≢_}
-use mathlib.Core.Bool.{Bool, _&&_, _||_}
-use Prim.Native.Nat.{ℕ, _+_, _-_, _*_, _%_, _≤_, _<_}
-use native.Mathlib.Nat.{mod-lt, mod-eq-of-lt, add-mod-right, add-comm}
+use mathlib.Core.Bool.{Bool, true, false, cond, _&&_, _||_}
+use Prim.Native.Nat.{ℕ, _+_, _-_, _/_, _%_, _≤_, _<_}
+use native.Mathlib.Nat.{mod-lt, mod-eq-of-lt, add-mod-right, add-comm, div-lt-iff-lt-mul, div-add-mod'}
 use native.Mathlib.Omega.{arith}
-use lib.Dec.{eqb}
-use borrow.Author.Tests.{lt-ltb, le-ltb, leb-false, eq-eqb}
-use Rattle.xor.proofs.Cases.{by-equal, clash, or-left, or-right}
+use lib.Bits.{bitOr}
+use lib.Dec.{eqb, ltb}
+use borrow.Author.Tests.{le-ltb, leb-false, eq-eqb, eqb-true}
+use Rattle.xor.specs.Xor.{_⊕_}
+use Rattle.xor.proofs.Cases.{by-test, by-equal, clash, either, or-left, or-right, and-left, and-right, not-passed, same-test}
+use Rattle.xor.proofs.Algebra.{zero-⊕, ⊕-zero}
+use Rattle.xor.proofs.Sums.{xors-zero, xors-one}
+use Rattle.xor.proofs.Sets.{any-some}
+use Rattle.bits.specs.Bit.{bit}
+use Rattle.bits.proofs.Bits.{bit-or, bit-zero}
 use Rattle.codes.specs.declared.Shape.{Shape}
-use Rattle.codes.specs.Shape.{rows, equations, cellNumber, WellFormed}
-use Rattle.codes.specs.Encoded.{sumsCell}
+use Rattle.codes.specs.Shape.{rows, columns, cells, equations, cellNumber, WellFormed}
+use Rattle.codes.specs.Encoded.{parityCell, sumsCell, isParity}
 use Rattle.codes.specs.Depends.{DataCell, DependOn}
-use Rattle.codes.proofs.Shapes.{low, rows-third, columns-third}
+use Rattle.codes.specs.Holders.{holds, HeldBy}
+use Rattle.codes.proofs.Shapes.{low, rows-low, columns-third}
 use Rattle.codes.proofs.Residues.{there-and-back}
 use Rattle.codes.proofs.Lines.{rdp-rows, hcode-rows, hcode-columns}
-use Rattle.codes.proofs.Ordered.{after, sums-parity}
-use Rattle.codes.proofs.Positions.{rdp-n, rdp-parity, rdp-sums, hcode-n, hcode-parity, hcode-sums, xcode-n, xcode-parity, xcode-sums}
+use Rattle.codes.proofs.Ordered.{ordered, after, sums-parity}
+use Rattle.codes.proofs.Positions.{cell-inside, rdp-n, rdp-first, rdp-parity, rdp-sums, hcode-n, hcode-parity, hcode-sums, xcode-n, xcode-parity, xcode-sums}
+use Rattle.codes.proofs.Held.{data-holds, parity-holds, none-after, held-below, held-is}
+use Rattle.codes.proofs.Units.{depend}
 
 -- a turned column is small
 pub small-turn : (a n p : ℕ) → 3 ≤ p → p ≤ 31 → a ≡ n % p → a ≤ 31
 small-turn a n p lo hi e = let l : n % p < p = mod-lt n (omega arith) in omega arith
 
-module _ (s : Shape) (w : WellFormed s) (c first second third : ℕ) where
-  -- the first is of the first family, the others of the second
-  depend : first < rows s → rows s ≤ equations s → rows s ≤ second → second ≤ equations s → rows s ≤ third → third ≤ equations s → after s first ≡ third
-      → ((q : ℕ) → q < equations s → sumsCell s q c ≡ (eqb q first || eqb q second)) → (second < equations s → second ≢ third)
-      → DependOn s c (record { first = first; second = second; third = third })
-  depend lf lr ls hs lt ht next direct apart = record {
-    there = omega arith;
-    second = hs;
-    third = ht;
-    direct = direct;
-    onward = λ q lq. sums-parity s w q first lq (omega arith) ∙ ap (λ (b : Bool). b && eqb q (after s first)) (lt-ltb first (rows s) lf) ∙ ap (eqb q) next;
-    ends = λ q lq l. sums-parity s w q second lq l ∙ ap (λ (b : Bool). b && eqb q (after s second)) (le-ltb second (rows s) ls);
-    ends′ = λ q lq l. sums-parity s w q third lq l ∙ ap (λ (b : Bool). b && eqb q (after s third)) (le-ltb third (rows s) lt);
-    apart = λ e. omega arith;
-    apart′ = λ e. omega arith;
-    apart″ = apart;
-  }
+module _ (s : Shape) (w : WellFormed s) (c : ℕ) (inside : c < cells s) (plain : isParity s c ≡ false) where
+  -- no equation sums the parity cell of one that holds the cell
+  depend-direct : (m : ℕ) → HeldBy s c m → ((q r : ℕ) → q < equations s → r < equations s → sumsCell s q (parityCell s r) ≡ false) → DependOn s c m
+  depend-direct m h none =
+      depend s w c m plain inside (held-below s c m h)
+      (λ q l. ap (λ (b : Bool). cond b 1 0) (held-is s c m h q l ∙ data-holds s w c plain q l)
+      ∙ sym (⊕-zero (cond (sumsCell s q c) 1 0))
+      ∙ ap (λ (x : ℕ). cond (sumsCell s q c) 1 0 ⊕ x) (sym (xors-zero (equations s) (λ r. cond (bit r m && sumsCell s q (parityCell s r)) 1 0) (λ r k. rw (none q r l k) (by-test (bit r m) (λ p. rw p refl) (λ p. rw p refl))))))
+
+  -- of those that hold it one has a parity cell that is summed; those that hold that are added
+  depend-onward : (h k r : ℕ) → HeldBy s c h → r < equations s → sumsCell s r c ≡ true → HeldBy s (parityCell s r) k
+      → ((q o : ℕ) → q < equations s → o < equations s → o ≢ r → bit o (bitOr h k) ≡ true → sumsCell s q (parityCell s o) ≡ false)
+      → ((q : ℕ) → q < equations s → sumsCell s q c ≡ true → sumsCell s q (parityCell s r) ≡ true → ⊥) → DependOn s c (bitOr h k)
+  unfolding holds
+  depend-onward h k r hh lr first hk none apart =
+      depend s w c (bitOr h k) plain inside
+      (λ q p. either (bit q h) (bit q k) (sym (bit-or q h k) ∙ p) (held-below s c h hh q) (held-below s (parityCell s r) k hk q))
+      (λ q l. ap (λ (b : Bool). cond b 1 0) (member q l) ∙ split (sumsCell s q c) (sumsCell s q (parityCell s r)) (apart q l)
+      ∙ ap (λ (x : ℕ). cond (sumsCell s q c) 1 0 ⊕ x)
+      (sym (xors-one (equations s) (λ o. cond (bit o (bitOr h k) && sumsCell s q (parityCell s o)) 1 0) r lr (λ o lo n. ap (λ (b : Bool). cond b 1 0) (not-passed (λ p. clash (and-right (bit o (bitOr h k)) (sumsCell s q (parityCell s o)) p) (none q o l lo n (and-left (bit o (bitOr h k)) (sumsCell s q (parityCell s o)) p)))))
+      ∙ ap (λ (b : Bool). cond (b && sumsCell s q (parityCell s r)) 1 0) (member r lr ∙ or-left (sumsCell s r (parityCell s r)) first))))
+    where
+      split : (a b : Bool) → (a ≡ true → b ≡ true → ⊥) → cond (a || b) 1 0 ≡ cond a 1 0 ⊕ cond b 1 0
+      split true true n = absurd (n refl refl)
+      split true false n = sym (⊕-zero 1)
+      split false b n = sym (zero-⊕ (cond b 1 0))
+
+      member : (q : ℕ) → q < equations s → bit q (bitOr h k) ≡ (sumsCell s q c || sumsCell s q (parityCell s r))
+      member q l =
+          bit-or q h k ∙ ap₂ _||_ (held-is s c h hh q l ∙ data-holds s w c plain q l) (held-is s (parityCell s r) k hk q l)
+          ∙ same-test
+          (λ p. either (sumsCell s q c) (eqb (parityCell s r) (parityCell s q) || sumsCell s q (parityCell s r)) p (or-left (sumsCell s q (parityCell s r)))
+          (λ p. either (eqb (parityCell s r) (parityCell s q)) (sumsCell s q (parityCell s r)) p own (or-right (sumsCell s q c))))
+          (λ p. either (sumsCell s q c) (sumsCell s q (parityCell s r)) p (or-left (eqb (parityCell s r) (parityCell s q) || sumsCell s q (parityCell s r))) (λ p. or-right (sumsCell s q c) (or-right (eqb (parityCell s r) (parityCell s q)) p)))
+        where
+          own : eqb (parityCell s r) (parityCell s q) ≡ true → (sumsCell s q c || sumsCell s q (parityCell s r)) ≡ true
+          own e = or-left (sumsCell s q (parityCell s r)) (ap (λ (o : ℕ). sumsCell s o c) (ordered s w .once q r l lr (sym (eqb-true (parityCell s r) (parityCell s q) e))) ∙ first)
+
+-- a cell by its row and column
+module _ (s : Shape) (w : WellFormed s) (c : ℕ) where
+  pub number-at : cellNumber s (c % rows s) (c / rows s) ≡ c
+  unfolding cellNumber
+  number-at = div-add-mod' c (rows s)
+
+  pub column-at : c < cells s → c / rows s < columns s
+  unfolding cells
+  column-at l = div-lt-iff-lt-mul tall .1 l
+    where
+      tall : 0 < rows s
+      tall = omega (arith, rows-low s w)
+
+  pub data-at : c < cells s → isParity s c ≡ false → DataCell s (c % rows s) (c / rows s)
+  data-at l p = record { low = mod-lt c (omega (arith, rows-low s w)); right = column-at l; plain = ap (isParity s) number-at ∙ p }
 
 module _ (s : Shape) (w : WellFormed s) (i j : ℕ) (cell : DataCell s i j) where
   pos : 0 < s .p
   pos = omega (arith, low s w)
+
+  here : cellNumber s i j < cells s
+  here = cell-inside s w i j (cell .low) (cell .right)
 
   module _ (is-rdp : s .code ≡ 1) where
     pub rdp-row-small : i < s .p - 1
@@ -52,7 +101,7 @@ module _ (s : Shape) (w : WellFormed s) (i j : ℕ) (cell : DataCell s i j) wher
     rdp-column-small = leb-false (s .p - 1) j (rdp-parity s w is-rdp i j (cell .low) (cell .right) ∙ cell .plain)
 
     -- the diagonals of the cell and of its row's parity cell differ
-    two-diagonals : (i + j) % s .p ≢ (i + (s .p - 1)) % s .p
+    pub two-diagonals : (i + j) % s .p ≢ (i + (s .p - 1)) % s .p
     two-diagonals e = let z : j ≡ s .p - 1 = back j (omega (arith, rdp-column-small)) ∙ ap (λ (x : ℕ). (x + (s .p - i)) % s .p) e ∙ sym (back (s .p - 1) (omega (arith, pos))) ∙ refl in omega (arith, rdp-column-small)
       where
         back : (k : ℕ) → k < s .p → k ≡ ((i + k) % s .p + (s .p - i)) % s .p
@@ -61,22 +110,49 @@ module _ (s : Shape) (w : WellFormed s) (i j : ℕ) (cell : DataCell s i j) wher
             whole : i + (s .p - i) ≡ s .p
             whole = omega (arith, rdp-row-small)
 
-    pub rdp-depends : (a b : ℕ) → a ≡ (i + j) % s .p → b ≡ (i + (s .p - 1)) % s .p
-        → DependOn s (cellNumber s i j) (record { first = i; second = s .p - 1 + a; third = s .p - 1 + b })
-    rdp-depends a b ea eb =
-        let la : (i + j) % s .p < s .p = mod-lt (i + j) pos in
-        let lb : (i + (s .p - 1)) % s .p < s .p = mod-lt (i + (s .p - 1)) pos in
-        depend s w (cellNumber s i j) i (s .p - 1 + a) (s .p - 1 + b) (cell .low) (omega (arith, rdp-n s w is-rdp, rdp-rows s w is-rdp)) (omega (arith, rdp-rows s w is-rdp)) (omega (arith, rdp-n s w is-rdp)) (omega (arith, rdp-rows s w is-rdp)) (omega (arith, rdp-n s w is-rdp))
-        (rw is-rdp (ap (λ (x : ℕ). s .p - 1 + x) (sym eb)))
-        (λ q lq. rdp-sums s w is-rdp i j rdp-row-small rdp-column-small q lq ∙ ap (λ (x : ℕ). eqb q i || eqb q (s .p - 1 + x)) (sym ea))
-        (λ l e. two-diagonals (let same : a ≡ b = omega arith in sym ea ∙ same ∙ eb))
+    pub rdp-depends : (h k : ℕ) → HeldBy s (cellNumber s i j) h → HeldBy s (cellNumber s i (s .p - 1)) k → DependOn s (cellNumber s i j) (bitOr h k)
+    rdp-depends h k hh hk =
+        depend-onward s w (cellNumber s i j) here (cell .plain) h k i hh known
+        (sums i known ∙ or-left _ (eq-eqb i i refl))
+        (subst (λ (c : ℕ). HeldBy s c k) (sym at) hk)
+        (λ q o lq lo n p. sums-parity s w q o lq lo ∙ ap (λ (b : Bool). b && eqb q (after s o)) (le-ltb o (rows s) (far o lo n p)))
+        (λ q l a b. either (eqb q i) (eqb q (s .p - 1 + (i + j) % s .p)) (sym (sums q l) ∙ a)
+        (λ e. absurd (let same = eqb-true q i e in omega (arith, second q l b, rdp-row-small)))
+        (λ e. two-diagonals (let same = eqb-true q (s .p - 1 + (i + j) % s .p) e in omega (arith, second q l b))))
+      where
+        known : i < equations s
+        known = omega (arith, rdp-row-small, rdp-n s w is-rdp)
+
+        at : parityCell s i ≡ cellNumber s i (s .p - 1)
+        at = rdp-first s w is-rdp i rdp-row-small
+
+        sums : (q : ℕ) → q < equations s → sumsCell s q (cellNumber s i j) ≡ (eqb q i || eqb q (s .p - 1 + (i + j) % s .p))
+        sums = rdp-sums s w is-rdp i j rdp-row-small rdp-column-small
+
+        next : after s i ≡ s .p - 1 + (i + (s .p - 1)) % s .p
+        next = rw is-rdp refl
+
+        -- what sums the row's parity cell is its diagonal
+        second : (q : ℕ) → q < equations s → sumsCell s q (parityCell s i) ≡ true → q ≡ s .p - 1 + (i + (s .p - 1)) % s .p
+        second q l b = eqb-true q (after s i) (and-right (ltb i (rows s)) (eqb q (after s i)) (sym (sums-parity s w q i l known) ∙ b)) ∙ next
+
+        -- the others are diagonals
+        far : (o : ℕ) → o < equations s → o ≢ i → bit o (bitOr h k) ≡ true → rows s ≤ o
+        far o lo n p =
+            either (bit o h) (bit o k) (sym (bit-or o h k) ∙ p)
+            (λ p. either (eqb o i) (eqb o (s .p - 1 + (i + j) % s .p)) (sym (held-is s (cellNumber s i j) h hh o lo ∙ data-holds s w (cellNumber s i j) (cell .plain) o lo ∙ sums o lo) ∙ p)
+            (λ e. absurd (n (eqb-true o i e)))
+            (λ e. let same = eqb-true o (s .p - 1 + (i + j) % s .p) e in omega (arith, rdp-rows s w is-rdp)))
+            (λ p. either (eqb o i) (ltb i (rows s) && eqb o (after s i)) (sym (held-is s (cellNumber s i (s .p - 1)) k hk o lo ∙ parity-holds s w i (cellNumber s i (s .p - 1)) at known o lo) ∙ p)
+            (λ e. absurd (n (eqb-true o i e)))
+            (λ e. let same = eqb-true o (after s i) (and-right (ltb i (rows s)) (eqb o (after s i)) e) in omega (arith, next, rdp-rows s w is-rdp)))
 
   module _ (is-hcode : s .code ≡ 2) where
     pub hcode-row-small : i < s .p - 1
     hcode-row-small = omega (arith, cell .low, hcode-rows s w is-hcode)
 
-    off : j ≢ i + 1
-    off e = clash (hcode-parity s w is-hcode i j (cell .low) ∙ or-right (eqb j (s .p)) (eq-eqb j (i + 1) e)) (cell .plain)
+    pub hcode-off : j ≢ i + 1
+    hcode-off e = clash (hcode-parity s w is-hcode i j (cell .low) ∙ or-right (eqb j (s .p)) (eq-eqb j (i + 1) e)) (cell .plain)
 
     pub hcode-column-small : j < s .p
     hcode-column-small =
@@ -85,7 +161,7 @@ module _ (s : Shape) (w : WellFormed s) (i j : ℕ) (cell : DataCell s i j) wher
 
     -- the anti-diagonal of a data cell is one of the p - 1
     pub one-of-them : (j + (s .p - 2 - i)) % s .p ≢ s .p - 1
-    one-of-them e = off (let z : j ≡ (s .p - 1 + (i + 2)) % s .p = sym (there-and-back (s .p) j (s .p - 2 - i) (i + 2) hcode-column-small whole) ∙ ap (λ (x : ℕ). (x + (i + 2)) % s .p) e in
+    one-of-them e = hcode-off (let z : j ≡ (s .p - 1 + (i + 2)) % s .p = sym (there-and-back (s .p) j (s .p - 2 - i) (i + 2) hcode-column-small whole) ∙ ap (λ (x : ℕ). (x + (i + 2)) % s .p) e in
         z ∙ ap (λ (x : ℕ). x % s .p) around ∙ add-mod-right (i + 1) (s .p) ∙ mod-eq-of-lt (omega (arith, hcode-row-small)))
       where
         whole : s .p - 2 - i + (i + 2) ≡ s .p
@@ -94,14 +170,6 @@ module _ (s : Shape) (w : WellFormed s) (i j : ℕ) (cell : DataCell s i j) wher
         around : s .p - 1 + (i + 2) ≡ i + 1 + s .p
         around = omega (arith, pos)
 
-    pub hcode-depends : (a : ℕ) → a ≡ (j + (s .p - 2 - i)) % s .p → DependOn s (cellNumber s i j) (record { first = i; second = s .p - 1 + a; third = 2 * (s .p - 1) })
-    hcode-depends a ea =
-        let la : (j + (s .p - 2 - i)) % s .p < s .p = mod-lt (j + (s .p - 2 - i)) pos in
-        depend s w (cellNumber s i j) i (s .p - 1 + a) (2 * (s .p - 1)) (cell .low) (omega (arith, hcode-n s w is-hcode, hcode-rows s w is-hcode)) (omega (arith, hcode-rows s w is-hcode)) (omega (arith, hcode-n s w is-hcode)) (omega (arith, hcode-rows s w is-hcode)) (omega (arith, hcode-n s w is-hcode))
-        (rw is-hcode refl)
-        (λ q lq. hcode-sums s w is-hcode i j hcode-row-small hcode-column-small off q lq ∙ ap (λ (x : ℕ). eqb q i || eqb q (s .p - 1 + x)) (sym ea))
-        (λ l e. omega (arith, hcode-n s w is-hcode))
-
   module _ (is-xcode : s .code ≡ 3) where
     pub xcode-row-small : i < s .p - 2
     xcode-row-small = leb-false (s .p - 2) i (xcode-parity s w is-xcode i j (cell .low) (cell .right) ∙ cell .plain)
@@ -109,11 +177,38 @@ module _ (s : Shape) (w : WellFormed s) (i j : ℕ) (cell : DataCell s i j) wher
     pub xcode-column-small : j < s .p
     xcode-column-small = omega (arith, cell .right, columns-third s is-xcode)
 
-    pub xcode-depends : (a b : ℕ) → a ≡ (j + (s .p - 2 - i)) % s .p → b ≡ (j + (i + 2)) % s .p → DependOn s (cellNumber s i j) (record { first = a; second = s .p + b; third = 2 * s .p })
-    xcode-depends a b ea eb =
-        let la : (j + (s .p - 2 - i)) % s .p < s .p = mod-lt (j + (s .p - 2 - i)) pos in
-        let lb : (j + (i + 2)) % s .p < s .p = mod-lt (j + (i + 2)) pos in
-        depend s w (cellNumber s i j) a (s .p + b) (2 * s .p) (omega (arith, rows-third s is-xcode)) (omega (arith, xcode-n s w is-xcode, rows-third s is-xcode)) (omega (arith, rows-third s is-xcode)) (omega (arith, xcode-n s w is-xcode)) (omega (arith, rows-third s is-xcode)) (omega (arith, xcode-n s w is-xcode))
-        (rw is-xcode refl)
-        (λ q lq. xcode-sums s w is-xcode i j xcode-row-small xcode-column-small q lq ∙ ap₂ (λ (x y : ℕ). eqb q x || eqb q (s .p + y)) (sym ea) (sym eb))
-        (λ l e. omega (arith, xcode-n s w is-xcode))
+  -- in the other codes no equation sums a parity cell
+  pub other-depends : s .code ≢ 1 → (m : ℕ) → HeldBy s (cellNumber s i j) m → DependOn s (cellNumber s i j) m
+  other-depends other m h =
+      depend-direct s w (cellNumber s i j) here (cell .plain) m h
+      (λ q r lq lr. sums-parity s w q r lq lr ∙ not-passed (λ p. let last = eqb-true q (after s r) (and-right (ltb r (rows s)) (eqb q (after s r)) p) in omega (arith, none-after s w other r)))
+
+  -- an equation that holds the cell: its row, or its line of the first family
+  data-some : (q : ℕ) × (q < equations s) × (sumsCell s q (cellNumber s i j) ≡ true)
+  data-some =
+      by-equal (s .code) 1
+      (λ e. let l : i < equations s = omega (arith, rdp-row-small e, rdp-n s w e) in
+      (i, l, rdp-sums s w e i j (rdp-row-small e) (rdp-column-small e) i l ∙ or-left _ (eq-eqb i i refl)))
+      (λ n. by-equal (s .code) 2
+      (λ e. let l : i < equations s = omega (arith, hcode-row-small e, hcode-n s w e) in
+      (i, l, hcode-sums s w e i j (hcode-row-small e) (hcode-column-small e) (hcode-off e) i l ∙ or-left _ (eq-eqb i i refl)))
+      (λ n′. let e = third n n′ in
+      let small : (j + (s .p - 2 - i)) % s .p < s .p = mod-lt (j + (s .p - 2 - i)) pos in
+      let l : (j + (s .p - 2 - i)) % s .p < equations s = omega (arith, xcode-n s w e) in
+      ((j + (s .p - 2 - i)) % s .p, l, xcode-sums s w e i j (xcode-row-small e) (xcode-column-small e) ((j + (s .p - 2 - i)) % s .p) l ∙ or-left _ (eq-eqb ((j + (s .p - 2 - i)) % s .p) ((j + (s .p - 2 - i)) % s .p) refl))))
+    where
+      third : s .code ≢ 1 → s .code ≢ 2 → s .code ≡ 3
+      third a b = omega (arith, w .codeLow, w .codeHigh)
+
+-- ---- every cell is held, so the set of the equations that hold it is not empty
+
+module _ (s : Shape) (w : WellFormed s) (c : ℕ) (inside : c < cells s) where
+  pub held-some : (q : ℕ) × (q < equations s) × (holds s q c ≡ true)
+  unfolding isParity holds
+  held-some =
+      by-test (isParity s c)
+      (λ p. let own = any-some (equations s) (λ r. eqb (parityCell s r) c) p in (own .0, own .1, or-left (sumsCell s (own .0) c) (eq-eqb c (parityCell s (own .0)) (sym (eqb-true (parityCell s (own .0)) c (own .2))))))
+      (λ p. let by = data-some s w (c % rows s) (c / rows s) (data-at s w c inside p) in (by .0, by .1, or-right (eqb c (parityCell s (by .0))) (ap (sumsCell s (by .0)) (sym (number-at s w c)) ∙ by .2)))
+
+  pub held-lowest : (m : ℕ) → HeldBy s c m → m ≢ 0
+  held-lowest m h e = let some = held-some in clash (held-is s c m h (some .0) (some .1) ∙ some .2) (ap (bit (some .0)) e ∙ bit-zero (some .0))

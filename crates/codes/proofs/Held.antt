@@ -1,123 +1,164 @@
 -- The equations that hold a cell: those that sum it where it is data, and for a parity cell its own, and the one that sums it.
+-- Each code names them by one or two numbers; one law (`held`) makes the set of it.
 use mathlib.Core.Path.{_≡_, refl, sym, ap, ap₂, _∙_}
 use mathlib.Core.Logic.{_≢_}
-use mathlib.Core.Bool.{Bool, _&&_, _||_}
-use Prim.Native.Nat.{ℕ, _+_, _-_, _*_, _%_, _≤_, _<_}
-use native.Mathlib.Nat.{mod-lt}
+use mathlib.Core.Bool.{Bool, true, false, _&&_, _||_}
+use Prim.Native.Nat.{ℕ, _+_, _-_, _%_, _^_, _≤_, _<_}
 use native.Mathlib.Omega.{arith}
-use lib.Dec.{eqb}
+use lib.Bits.{bitAnd, bitOr}
+use lib.Dec.{eqb, ltb}
 use borrow.Author.Tests.{lt-ltb, le-ltb, eq-eqb, ne-eqb, eqb-true, leb-true}
-use Rattle.xor.proofs.Cases.{clash, either, not-passed, same-test}
+use Rattle.xor.proofs.Cases.{by-equal, by-less, clash, not-passed, same-test}
+use Rattle.bits.specs.Bit.{bit}
+use Rattle.bits.proofs.Bits.{bit-and, bit-or, bit-power, bit-ones}
 use Rattle.codes.specs.declared.Shape.{Shape}
-use Rattle.codes.specs.declared.Dependents.{Dependents}
-use Rattle.codes.specs.Shape.{rows, equations, cellNumber, WellFormed}
-use Rattle.codes.specs.Encoded.{parityCell, sumsCell}
-use Rattle.codes.specs.Depends.{DataCell, DependOn}
-use Rattle.codes.specs.Holders.{holds, ParityCell, HeldBy}
+use Rattle.codes.specs.Shape.{rows, columns, equations, cellNumber, WellFormed}
+use Rattle.codes.specs.Encoded.{parityCell, sumsCell, isParity}
+use Rattle.codes.specs.Holders.{holds, HeldBy, Named}
 use Rattle.codes.proofs.Shapes.{low, columns-third}
-use Rattle.codes.proofs.Lines.{rdp-rows, rdp-columns, hcode-rows}
+use Rattle.codes.proofs.Lines.{rdp-rows, rdp-columns, hcode-rows, hcode-columns}
 use Rattle.codes.proofs.Ordered.{ordered, after, sums-parity}
-use Rattle.codes.proofs.Positions.{parity-yes, rdp-n, rdp-first, rdp-second, rdp-parity, hcode-n, hcode-first, hcode-second, hcode-parity, xcode-n, xcode-rows, xcode-first-at, xcode-second-at, xcode-parity}
+use Rattle.codes.proofs.Positions.{rdp-n, rdp-first, rdp-second, rdp-parity, rdp-sums, hcode-n, hcode-first, hcode-second, hcode-parity, hcode-sums, xcode-n, xcode-rows, xcode-first-at, xcode-second-at, xcode-parity, xcode-sums}
+use Rattle.codes.proofs.Units.{not-parity}
+
+-- the set of two numbers, as the code makes it
+pub named-is : (s : Shape) (a b n x y z : ℕ) → x ≡ 2 ^ a → y ≡ 2 ^ b → n ≡ equations s → z ≡ 2 ^ n → Named s a b (bitAnd (bitOr x y) (z - 1))
+named-is s a b n x y z ex ey en ez = record {
+  bits = λ q.
+      bit-and q (bitOr x y) (z - 1)
+      ∙ ap₂ _&&_ (bit-or q x y ∙ ap₂ _||_ (ap (bit q) ex ∙ bit-power q a) (ap (bit q) ey ∙ bit-power q b)) (ap (λ (k : ℕ). bit q (k - 1)) ez ∙ bit-ones q n ∙ ap (ltb q) en)
+      ∙ swap (eqb q a || eqb q b) (ltb q (equations s));
+}
+  where
+    swap : (a b : Bool) → (a && b) ≡ (b && a)
+    swap true true = refl
+    swap true false = refl
+    swap false true = refl
+    swap false false = refl
+
+module _ (s : Shape) where
+  -- the equations that are named are those that hold the cell
+  held : (c a b m : ℕ) → Named s a b m → ((q : ℕ) → q < equations s → holds s q c ≡ (eqb q a || eqb q b)) → HeldBy s c m
+  held c a b m h is = record { bits = λ q. h .bits q ∙ by-less q (equations s) (λ l. ap (_&&_ (ltb q (equations s))) (sym (is q l))) (λ l. rw (le-ltb q (equations s) l) refl) }
+
+  -- what the set says
+  pub held-below : (c m : ℕ) → HeldBy s c m → (q : ℕ) → bit q m ≡ true → q < equations s
+  held-below c m h q p = by-less q (equations s) (λ l. l) (λ l. clash p (h .bits q ∙ ap (λ (b : Bool). b && holds s q c) (le-ltb q (equations s) l)))
+
+  pub held-is : (c m : ℕ) → HeldBy s c m → (q : ℕ) → q < equations s → bit q m ≡ holds s q c
+  held-is c m h q l = h .bits q ∙ ap (λ (b : Bool). b && holds s q c) (lt-ltb q (equations s) l)
 
 module _ (s : Shape) (w : WellFormed s) where
-  -- ---- data cells
-
-  pub data-held : (i j : ℕ) → DataCell s i j → (d : Dependents) → DependOn s (cellNumber s i j) d
-      → HeldBy s (cellNumber s i j) (record { first = d .first; second = d .second })
+  -- a data cell is held by those that sum it
+  pub data-holds : (c : ℕ) → isParity s c ≡ false → (q : ℕ) → q < equations s → holds s q c ≡ sumsCell s q c
   unfolding holds
-  data-held i j cell d h = record {
-    there = h .there;
-    second = h .second;
-    held = λ q l. ap₂ _||_ (not-passed (λ e. clash (parity-yes s w q (cellNumber s i j) l (sym (eqb-true (cellNumber s i j) (parityCell s q) e))) (cell .plain))) (h .direct q l);
-    apart = h .apart;
-  }
+  data-holds c plain q l = ap (λ (b : Bool). b || sumsCell s q c) (ne-eqb c (parityCell s q) (not-parity s c q plain l))
 
-  -- ---- parity cells
+  -- but in RDP no equation sums a parity cell
+  pub none-after : s .code ≢ 1 → (r : ℕ) → equations s ≡ after s r
+  none-after n r = by-equal (s .code) 2 (λ e. hcode-n s w e ∙ rw e refl) (λ n′. let e = third n n′ in xcode-n s w e ∙ rw e refl)
+    where
+      third : s .code ≢ 1 → s .code ≢ 2 → s .code ≡ 3
+      third a b = omega (arith, w .codeLow, w .codeHigh)
 
-  -- cell c is the parity cell of equation r, and no other's
-  own : (q r c : ℕ) → q < equations s → r < equations s → parityCell s r ≡ c → eqb c (parityCell s q) ≡ eqb q r
-  own q r c lq lr e =
-      same-test
-      (λ h. eq-eqb q r (ordered s w .once q r lq lr (sym (eqb-true c (parityCell s q) h) ∙ sym e)))
-      (λ h. eq-eqb c (parityCell s q) (sym e ∙ ap (parityCell s) (sym (eqb-true q r h))))
+  -- a parity cell by its own, and by the one after it, if there is such
+  pub parity-holds : (r c : ℕ) → parityCell s r ≡ c → r < equations s → (q : ℕ) → q < equations s → holds s q c ≡ (eqb q r || (ltb r (rows s) && eqb q (after s r)))
+  unfolding holds
+  parity-holds r c is lr q lq = ap₂ _||_ own (ap (sumsCell s q) (sym is) ∙ sums-parity s w q r lq lr)
+    where
+      own : eqb c (parityCell s q) ≡ eqb q r
+      own =
+          same-test
+          (λ h. eq-eqb q r (ordered s w .once q r lq lr (sym (eqb-true c (parityCell s q) h) ∙ sym is)))
+          (λ h. eq-eqb c (parityCell s q) (sym is ∙ ap (parityCell s) (sym (eqb-true q r h))))
 
-  module _ (r c second : ℕ) (is : parityCell s r ≡ c) where
-    -- of the first family: the equation after it sums the cell
-    first-held : r < rows s → rows s ≤ second → second ≤ equations s → r < equations s → after s r ≡ second
-        → HeldBy s c (record { first = r; second = second })
-    unfolding holds
-    first-held l low high lr next = record {
-      there = lr;
-      second = high;
-      held = λ q lq. ap₂ _||_ (own q r c lq lr is)
-          (ap (sumsCell s q) (sym is) ∙ sums-parity s w q r lq lr ∙ ap (λ (b : Bool). b && eqb q (after s r)) (lt-ltb r (rows s) l) ∙ ap (eqb q) next);
-      apart = λ e. omega arith;
-    }
+  -- the parity cell of r, which no other equation sums
+  lone-held : (r c m : ℕ) → parityCell s r ≡ c → r < equations s → (r < rows s → equations s ≡ after s r) → Named s r r m → HeldBy s c m
+  lone-held r c m is lr last named =
+      held s c r r m named (λ q l. parity-holds r c is lr q l ∙ ap (_||_ (eqb q r)) (none q l) ∙ twice (eqb q r))
+    where
+      none : (q : ℕ) → q < equations s → (ltb r (rows s) && eqb q (after s r)) ≡ false
+      none q l = by-less r (rows s) (λ k. rw (lt-ltb r (rows s) k, ne-eqb q (after s r) (λ e. let z = last k in omega arith)) refl) (λ k. rw (le-ltb r (rows s) k) refl)
 
-    -- of the second: no other equation holds it
-    second-held : rows s ≤ r → r < equations s → second ≡ equations s → HeldBy s c (record { first = r; second = second })
-    unfolding holds
-    second-held l lr last = record {
-      there = lr;
-      second = omega arith;
-      held = λ q lq. ap₂ _||_ (own q r c lq lr is)
-          (ap (sumsCell s q) (sym is) ∙ sums-parity s w q r lq lr ∙ ap (λ (b : Bool). b && eqb q (after s r)) (le-ltb r (rows s) l) ∙ sym (ne-eqb q second (λ e. omega arith)));
-      apart = λ e. omega arith;
-    }
+      twice : (b : Bool) → (b || false) ≡ (b || b)
+      twice true = refl
+      twice false = refl
 
   -- where they stand, code by code
-  module _ (i j : ℕ) (cell : ParityCell s i j) where
+  module _ (i j : ℕ) (li : i < rows s) (lj : j < columns s) (m : ℕ) where
     module _ (is-rdp : s .code ≡ 1) where
-      pub rdp-row-held : (a : ℕ) → j ≢ s .p → a ≡ (i + (s .p - 1)) % s .p → HeldBy s (cellNumber s i j) (record { first = i; second = s .p - 1 + a })
-      rdp-row-held a n ea =
-          let la : (i + (s .p - 1)) % s .p < s .p = mod-lt (i + (s .p - 1)) (omega (arith, low s w)) in
-          first-held i (cellNumber s i j) (s .p - 1 + a)
-          (rdp-first s w is-rdp i (omega (arith, cell .low, rdp-rows s w is-rdp)) ∙ ap (cellNumber s i) (sym column))
-          (cell .low) (omega (arith, rdp-rows s w is-rdp)) (omega (arith, rdp-n s w is-rdp)) (omega (arith, cell .low, rdp-rows s w is-rdp, rdp-n s w is-rdp))
-          (rw is-rdp (ap (λ (x : ℕ). s .p - 1 + x) (sym ea)))
-        where
-          column : j ≡ s .p - 1
-          column = omega (arith, cell .right, rdp-columns s w is-rdp, leb-true (s .p - 1) j (rdp-parity s w is-rdp i j (cell .low) (cell .right) ∙ cell .parity))
+      row-small : i < s .p - 1
+      row-small = omega (arith, li, rdp-rows s w is-rdp)
 
-      pub rdp-diagonal-held : j ≡ s .p → HeldBy s (cellNumber s i j) (record { first = s .p - 1 + i; second = 2 * (s .p - 1) })
-      rdp-diagonal-held e =
-          second-held (s .p - 1 + i) (cellNumber s i j) (2 * (s .p - 1))
-          (rdp-second s w is-rdp i (omega (arith, cell .low, rdp-rows s w is-rdp)) ∙ ap (cellNumber s i) (sym e))
-          (omega (arith, rdp-rows s w is-rdp)) (omega (arith, cell .low, rdp-rows s w is-rdp, rdp-n s w is-rdp)) (sym (rdp-n s w is-rdp))
+      pub rdp-held : (a : ℕ) → j ≢ s .p → a ≡ (i + j) % s .p → Named s i (s .p - 1 + a) m → HeldBy s (cellNumber s i j) m
+      rdp-held a n ea named =
+          held s (cellNumber s i j) i (s .p - 1 + a) m named
+          (λ q l. by-less j (s .p - 1)
+          (λ k. data-holds (cellNumber s i j) (plain k) q l ∙ rdp-sums s w is-rdp i j row-small k q l ∙ ap (λ (x : ℕ). eqb q i || eqb q (s .p - 1 + x)) (sym ea))
+          (λ k. parity-holds i (cellNumber s i j) (rdp-first s w is-rdp i row-small ∙ ap (cellNumber s i) (sym (last k))) (omega (arith, rdp-n s w is-rdp, row-small)) q l
+          ∙ ap (λ (b : Bool). eqb q i || (b && eqb q (after s i))) (lt-ltb i (rows s) li)
+          ∙ ap (λ (x : ℕ). eqb q i || eqb q x) (rw is-rdp (ap (λ (x : ℕ). s .p - 1 + (i + x) % s .p) (sym (last k)) ∙ ap (λ (x : ℕ). s .p - 1 + x) (sym ea)))))
+        where
+          plain : j < s .p - 1 → isParity s (cellNumber s i j) ≡ false
+          plain k = sym (rdp-parity s w is-rdp i j li lj) ∙ not-passed (λ h. absurd (let z = leb-true (s .p - 1) j h in omega arith))
+
+          last : s .p - 1 ≤ j → j ≡ s .p - 1
+          last k = omega (arith, lj, rdp-columns s w is-rdp)
+
+      pub rdp-last-held : j ≡ s .p → Named s (s .p - 1 + i) (s .p - 1 + i) m → HeldBy s (cellNumber s i j) m
+      rdp-last-held e =
+          lone-held (s .p - 1 + i) (cellNumber s i j) m
+          (rdp-second s w is-rdp i row-small ∙ ap (cellNumber s i) (sym e))
+          (omega (arith, row-small, rdp-n s w is-rdp)) (λ l. absurd (omega (arith, rdp-rows s w is-rdp)))
 
     module _ (is-hcode : s .code ≡ 2) where
-      pub hcode-row-held : j ≡ s .p → HeldBy s (cellNumber s i j) (record { first = i; second = 2 * (s .p - 1) })
-      hcode-row-held e =
-          first-held i (cellNumber s i j) (2 * (s .p - 1))
-          (hcode-first s w is-hcode i (omega (arith, cell .low, hcode-rows s w is-hcode)) ∙ ap (cellNumber s i) (sym e))
-          (cell .low) (omega (arith, hcode-rows s w is-hcode)) (omega (arith, hcode-n s w is-hcode)) (omega (arith, cell .low, hcode-rows s w is-hcode, hcode-n s w is-hcode))
-          (rw is-hcode refl)
+      tall : i < s .p - 1
+      tall = omega (arith, li, hcode-rows s w is-hcode)
 
-      pub hcode-anti-held : j ≢ s .p → HeldBy s (cellNumber s i j) (record { first = s .p - 1 + i; second = 2 * (s .p - 1) })
-      hcode-anti-held n =
-          second-held (s .p - 1 + i) (cellNumber s i j) (2 * (s .p - 1))
-          (hcode-second s w is-hcode i (omega (arith, cell .low, hcode-rows s w is-hcode)) ∙ ap (cellNumber s i) (sym beside))
-          (omega (arith, hcode-rows s w is-hcode)) (omega (arith, cell .low, hcode-rows s w is-hcode, hcode-n s w is-hcode)) (sym (hcode-n s w is-hcode))
+      lone : (r : ℕ) → r < rows s → equations s ≡ after s r
+      lone r l = none-after (λ e. omega arith) r
+
+      pub hcode-last-held : j ≡ s .p → Named s i i m → HeldBy s (cellNumber s i j) m
+      hcode-last-held e =
+          lone-held i (cellNumber s i j) m (hcode-first s w is-hcode i tall ∙ ap (cellNumber s i) (sym e)) (omega (arith, tall, hcode-n s w is-hcode)) (lone i)
+
+      pub hcode-beside-held : j ≡ i + 1 → Named s (s .p - 1 + i) (s .p - 1 + i) m → HeldBy s (cellNumber s i j) m
+      hcode-beside-held e =
+          lone-held (s .p - 1 + i) (cellNumber s i j) m
+          (hcode-second s w is-hcode i tall ∙ ap (cellNumber s i) (sym e)) (omega (arith, tall, hcode-n s w is-hcode)) (lone (s .p - 1 + i))
+
+      pub hcode-held : (a : ℕ) → j ≢ s .p → j ≢ i + 1 → a ≡ (j + (s .p - 2 - i)) % s .p → Named s i (s .p - 1 + a) m → HeldBy s (cellNumber s i j) m
+      hcode-held a n off ea named =
+          held s (cellNumber s i j) i (s .p - 1 + a) m named
+          (λ q l. data-holds (cellNumber s i j) plain q l ∙ hcode-sums s w is-hcode i j tall (omega (arith, lj, hcode-columns s w is-hcode)) off q l ∙ ap (λ (x : ℕ). eqb q i || eqb q (s .p - 1 + x)) (sym ea))
         where
-          beside : j ≡ i + 1
-          beside = either (eqb j (s .p)) (eqb j (i + 1)) (sym (hcode-parity s w is-hcode i j (cell .low)) ∙ cell .parity) (λ e. absurd (n (eqb-true j (s .p) e))) (eqb-true j (i + 1))
+          plain : isParity s (cellNumber s i j) ≡ false
+          plain = hcode-parity s w is-hcode i j li ∙ ap₂ _||_ (ne-eqb j (s .p) n) (ne-eqb j (i + 1) off)
 
     module _ (is-xcode : s .code ≡ 3) where
-      column-small : j < s .p
-      column-small = omega (arith, cell .right, columns-third s is-xcode)
+      wide : j < s .p
+      wide = omega (arith, lj, columns-third s is-xcode)
 
-      pub xcode-first-held : i ≢ s .p - 1 → HeldBy s (cellNumber s i j) (record { first = j; second = 2 * s .p })
-      xcode-first-held n =
-          first-held j (cellNumber s i j) (2 * s .p)
-          (xcode-first-at s w is-xcode j column-small ∙ ap (λ (x : ℕ). cellNumber s x j) (sym row))
-          (omega (arith, column-small, xcode-rows s w is-xcode)) (omega (arith, xcode-rows s w is-xcode)) (omega (arith, xcode-n s w is-xcode)) (omega (arith, column-small, xcode-n s w is-xcode))
-          (rw is-xcode refl)
+      lone′ : (r : ℕ) → r < rows s → equations s ≡ after s r
+      lone′ r l = none-after (λ e. omega arith) r
+
+      pub xcode-last-held : i ≡ s .p - 1 → Named s (s .p + j) (s .p + j) m → HeldBy s (cellNumber s i j) m
+      xcode-last-held e =
+          lone-held (s .p + j) (cellNumber s i j) m
+          (xcode-second-at s w is-xcode j wide ∙ ap (λ (x : ℕ). cellNumber s x j) (sym e)) (omega (arith, wide, xcode-n s w is-xcode)) (lone′ (s .p + j))
+
+      pub xcode-before-held : i ≡ s .p - 2 → Named s j j m → HeldBy s (cellNumber s i j) m
+      xcode-before-held e =
+          lone-held j (cellNumber s i j) m
+          (xcode-first-at s w is-xcode j wide ∙ ap (λ (x : ℕ). cellNumber s x j) (sym e)) (omega (arith, wide, xcode-n s w is-xcode)) (lone′ j)
+
+      pub xcode-held : (a b : ℕ) → i ≢ s .p - 1 → i ≢ s .p - 2 → a ≡ (j + (s .p - 2 - i)) % s .p → b ≡ (j + (i + 2)) % s .p → Named s a (s .p + b) m → HeldBy s (cellNumber s i j) m
+      xcode-held a b n n′ ea eb named =
+          held s (cellNumber s i j) a (s .p + b) m named
+          (λ q l. data-holds (cellNumber s i j) plain q l ∙ xcode-sums s w is-xcode i j short wide q l ∙ ap₂ (λ (x y : ℕ). eqb q x || eqb q (s .p + y)) (sym ea) (sym eb))
         where
-          row : i ≡ s .p - 2
-          row = omega (arith, cell .low, xcode-rows s w is-xcode, leb-true (s .p - 2) i (xcode-parity s w is-xcode i j (cell .low) (cell .right) ∙ cell .parity))
+          short : i < s .p - 2
+          short = omega (arith, li, xcode-rows s w is-xcode, low s w)
 
-      pub xcode-second-held : i ≡ s .p - 1 → HeldBy s (cellNumber s i j) (record { first = s .p + j; second = 2 * s .p })
-      xcode-second-held e =
-          second-held (s .p + j) (cellNumber s i j) (2 * s .p)
-          (xcode-second-at s w is-xcode j column-small ∙ ap (λ (x : ℕ). cellNumber s x j) (sym e))
-          (omega (arith, xcode-rows s w is-xcode)) (omega (arith, column-small, xcode-n s w is-xcode)) (sym (xcode-n s w is-xcode))
+          plain : isParity s (cellNumber s i j) ≡ false
+          plain = sym (xcode-parity s w is-xcode i j li lj) ∙ not-passed (λ h. absurd (let z = leb-true (s .p - 2) i h in omega (arith, short)))

@@ -8,8 +8,10 @@ pub mod Ordered
 pub mod Parity
 pub mod Places
 pub mod Positions
-pub mod Depends
+pub mod Units
 pub mod Held
+pub mod Depends
+pub mod Sizes
 pub mod Paths
 pub mod Solutions
 pub mod Columns
@@ -17,3 +19,4 @@ pub mod TwoRdp
 pub mod TwoHcode
 pub mod TwoXcode
 pub mod TwoColumns
+pub mod Alone

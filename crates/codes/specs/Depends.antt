@@ -1,13 +1,13 @@
--- How the parity cells that depend on a data cell are found.
+-- Which parity cells depend on a data cell.
 use mathlib.Core.Path.{_≡_}
-use mathlib.Core.Logic.{_≢_}
-use mathlib.Core.Bool.{false, _||_}
-use Prim.Native.Nat.{ℕ, _≤_, _<_}
+use mathlib.Core.Bool.{true, false, cond, _&&_, _||_}
+use Prim.Native.Nat.{ℕ, _<_}
 use lib.Dec.{eqb}
+use Rattle.xor.specs.Sets.{any}
+use Rattle.bits.specs.Bit.{bit}
 use Rattle.codes.specs.declared.Shape.{Shape}
-use Rattle.codes.specs.declared.Dependents.{Dependents}
 use Rattle.codes.specs.Shape.{rows, columns, equations, cellNumber, stripeLength, WellFormed}
-use Rattle.codes.specs.Encoded.{parityCell, sumsCell, isParity}
+use Rattle.codes.specs.Encoded.{parityCell, isParity, Solves}
 
 -- the cell in a row and a column is in the stripe, and no parity cell
 pub record DataCell (s : Shape) (row column : ℕ) : Type 0 where
@@ -22,15 +22,11 @@ pub record WriteRight (s : Shape) (bytes row column new : ℕ) : Type 0 where
   pub cell : DataCell s row column
   pub whole : new ≡ s .cell
 
--- the first and the second equation sum cell c, the third sums the parity cell of the first, and nothing else is summed
-pub record DependOn (s : Shape) (c : ℕ) (r : Dependents) : Type 0 where
-  pub there : r .first < equations s
-  pub second : r .second ≤ equations s
-  pub third : r .third ≤ equations s
-  pub direct : (q : ℕ) → q < equations s → sumsCell s q c ≡ (eqb q (r .first) || eqb q (r .second))
-  pub onward : (q : ℕ) → q < equations s → sumsCell s q (parityCell s (r .first)) ≡ eqb q (r .third)
-  pub ends : (q : ℕ) → q < equations s → r .second < equations s → sumsCell s q (parityCell s (r .second)) ≡ false
-  pub ends′ : (q : ℕ) → q < equations s → r .third < equations s → sumsCell s q (parityCell s (r .third)) ≡ false
-  pub apart : r .first ≢ r .second
-  pub apart′ : r .first ≢ r .third
-  pub apart″ : r .second < equations s → r .second ≢ r .third
+-- 1 in cell c and in the parity cells of the equations in m, and 0 elsewhere
+unfoldable pub unitOf : Shape → ℕ → ℕ → ℕ → ℕ
+unitOf s c m k = cond (eqb k c || any (equations s) (λ q. bit q m && eqb (parityCell s q) k)) 1 0
+
+-- m is the set of the equations whose parity cells depend on data cell c: where 1 is put alone at c and encoded, these are 1
+pub record DependOn (s : Shape) (c m : ℕ) : Type 0 where
+  pub below : (q : ℕ) → bit q m ≡ true → q < equations s
+  pub solves : Solves s (unitOf s c m)

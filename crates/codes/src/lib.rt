@@ -9,7 +9,11 @@ ghost use Rattle.codes.specs.Encoded.{parityCell, isParity};
 ghost use Rattle.codes.specs.Refusals.{refusal, shapeFaults, stripeFaults, writeFaults, cellsFaults, columnsFaults};
 ghost use Rattle.codes.specs.Lines.{Lies, Walks, Placed, Found, Holding};
 ghost use Rattle.codes.specs.Depends.{DataCell, DependOn};
-ghost use Rattle.codes.specs.Holders.{ParityCell, HeldBy};
+ghost use Rattle.codes.specs.Holders.{HeldBy, Named};
+
+mod hcode;
+mod rdp;
+mod xcode;
 
 // What describes a stripe: the code (1 RDP, 2 H-Code, 3 X-Code), the prime, and the bytes in a cell. Any numbers may stand here.
 #[repr(C)]
@@ -34,21 +38,6 @@ struct Line {
 pub struct Sources {
     pub to: usize,
     pub count: usize,
-}
-
-// The numbers of the equations whose parity cells depend on a data cell: the first two sum the cell itself, and the third sums
-// the parity cell of the first, as RDP's diagonals do. One that isn't there has the number past the last equation's.
-pub struct Dependents {
-    pub first: usize,
-    pub second: usize,
-    pub third: usize,
-}
-
-// The numbers of the equations that hold a cell, as their parity cell or as one that they sum.
-// Where there is only one, the second is the number past the last equation's.
-pub struct Holders {
-    pub first: usize,
-    pub second: usize,
 }
 
 // Whether p is one of the ten primes.
@@ -158,101 +147,18 @@ pub fn turned(column: usize, step: usize, p: usize) -> usize
     if p <= next { next - p } else { next }
 }
 
-// The line of equation q of RDP: rows first, then the diagonals, which hold the row parity column.
-fn rdp_line(shape: Shape, q: usize) -> Line
-    requires { ⌜ WellFormed shape × (shape .code ≡ 1) × (q < equations shape) ⌝ }
-    ensures { λ r. ⌜ Walks shape q r ⌝ }
-{
-    let p = shape.p;
-    let n = p - 1;
-    if q < n {
-        return Line {
-            parity: n * n + q,
-            count: n,
-            row: q,
-            fall: 0,
-            column: 0,
-            step: 1,
-        };
-    }
-    let d = q - n;
-    Line {
-        parity: p * n + d,
-        count: n,
-        row: 0,
-        fall: 1,
-        column: d,
-        step: n,
-    }
-}
-
-// The line of equation q of H-Code: rows first, then the anti-diagonals.
-fn hcode_line(shape: Shape, q: usize) -> Line
-    requires { ⌜ WellFormed shape × (shape .code ≡ 2) × (q < equations shape) ⌝ }
-    ensures { λ r. ⌜ Walks shape q r ⌝ }
-{
-    let p = shape.p;
-    let n = p - 1;
-    if q < n {
-        return Line {
-            parity: p * n + q,
-            count: n,
-            row: q,
-            fall: 0,
-            column: turned(q, 2, p),
-            step: 1,
-        };
-    }
-    let r = q - n;
-    Line {
-        parity: (r + 1) * n + r,
-        count: n,
-        row: 0,
-        fall: 1,
-        column: turned(r, 2, p),
-        step: 1,
-    }
-}
-
-// The line of equation q of X-Code: the first family, then the second.
-fn xcode_line(shape: Shape, q: usize) -> Line
-    requires { ⌜ WellFormed shape × (shape .code ≡ 3) × (q < equations shape) ⌝ }
-    ensures { λ r. ⌜ Walks shape q r ⌝ }
-{
-    let p = shape.p;
-    if q < p {
-        return Line {
-            parity: q * p + (p - 2),
-            count: p - 2,
-            row: 0,
-            fall: 1,
-            column: turned(q, 2, p),
-            step: 1,
-        };
-    }
-    let c = q - p;
-    Line {
-        parity: c * p + (p - 1),
-        count: p - 2,
-        row: 0,
-        fall: 1,
-        column: turned(c, p - 2, p),
-        step: p - 1,
-    }
-}
-
 // The line of equation q.
 fn line_of(shape: Shape, q: usize) -> Line
     requires { ⌜ WellFormed shape × (q < equations shape) ⌝ }
     ensures { λ r. ⌜ Walks shape q r ⌝ }
 {
     if shape.code == 1 {
-        return rdp_line(shape, q);
+        return rdp::line(shape, q);
     }
     if shape.code == 2 {
-        return hcode_line(shape, q);
+        return hcode::line(shape, q);
     }
-    xcode_line(shape, q)
+    xcode::line(shape, q)
 }
 
 // Fills in where in the stripe's bytes the cells of a line start.
@@ -390,128 +296,47 @@ pub fn is_parity(shape: Shape, row: usize, column: usize) -> bool
     requires { ⌜ WellFormed shape × (row < rows shape) × (column < columns shape) ⌝ }
     ensures { λ r. ⌜ r ≡ isParity shape (cellNumber shape row column) ⌝ }
 {
-    let p = shape.p;
     if shape.code == 1 {
-        return p - 1 <= column;
+        return rdp::is_parity(shape, row, column);
     }
-    if shape.code == 3 {
-        return p - 2 <= row;
+    if shape.code == 2 {
+        return hcode::is_parity(shape, row, column);
     }
-    if column == p {
-        return true;
-    }
-    column == row + 1
+    xcode::is_parity(shape, row, column)
 }
 
-// The equations whose parity cells depend on a data cell of RDP: its row, its diagonal, and the diagonal of its row's parity cell.
-fn rdp_dependents(shape: Shape, row: usize, column: usize) -> Dependents
-    requires { ⌜ WellFormed shape × (shape .code ≡ 1) × DataCell shape row column ⌝ }
-    ensures { λ r. ⌜ DependOn shape (cellNumber shape row column) r ⌝ }
+// The set of the equations numbered a and b, where there are such.
+fn named(shape: Shape, a: usize, b: usize) -> u64
+    requires { ⌜ WellFormed shape × (a < 64) × (b < 64) ⌝ }
+    ensures { λ r. ⌜ Named shape a b r ⌝ }
 {
-    let p = shape.p;
-    let n = p - 1;
-    Dependents {
-        first: row,
-        second: n + turned(row, column, p),
-        third: n + turned(row, n, p),
-    }
+    (bits::one_bit(a) | bits::one_bit(b)) & (bits::one_bit(equation_count(shape)) - 1)
 }
 
-// The same of H-Code: the cell's row and its anti-diagonal.
-fn hcode_dependents(shape: Shape, row: usize, column: usize) -> Dependents
-    requires { ⌜ WellFormed shape × (shape .code ≡ 2) × DataCell shape row column ⌝ }
-    ensures { λ r. ⌜ DependOn shape (cellNumber shape row column) r ⌝ }
+// The set of the equations that hold the cell in a row and a column.
+pub fn holders_of(shape: Shape, row: usize, column: usize) -> u64
+    requires { ⌜ WellFormed shape × (row < rows shape) × (column < columns shape) ⌝ }
+    ensures { λ r. ⌜ HeldBy shape (cellNumber shape row column) r ⌝ }
 {
-    let p = shape.p;
-    let n = p - 1;
-    Dependents {
-        first: row,
-        second: n + turned(column, p - 2 - row, p),
-        third: 2 * n,
+    if shape.code == 1 {
+        return rdp::holders(shape, row, column);
     }
+    if shape.code == 2 {
+        return hcode::holders(shape, row, column);
+    }
+    xcode::holders(shape, row, column)
 }
 
-// The same of X-Code: the cell's lines in both families.
-fn xcode_dependents(shape: Shape, row: usize, column: usize) -> Dependents
-    requires { ⌜ WellFormed shape × (shape .code ≡ 3) × DataCell shape row column ⌝ }
-    ensures { λ r. ⌜ DependOn shape (cellNumber shape row column) r ⌝ }
-{
-    let p = shape.p;
-    Dependents {
-        first: turned(column, p - 2 - row, p),
-        second: p + turned(column, row + 2, p),
-        third: 2 * p,
-    }
-}
-
-// The equations whose parity cells depend on the data cell in a row and a column.
-pub fn dependents_of(shape: Shape, row: usize, column: usize) -> Dependents
+// The set of the equations whose parity cells depend on the data cell in a row and a column.
+pub fn dependents_of(shape: Shape, row: usize, column: usize) -> u64
     requires { ⌜ WellFormed shape × DataCell shape row column ⌝ }
     ensures { λ r. ⌜ DependOn shape (cellNumber shape row column) r ⌝ }
 {
     if shape.code == 1 {
-        return rdp_dependents(shape, row, column);
+        return rdp::dependents(shape, row, column);
     }
     if shape.code == 2 {
-        return hcode_dependents(shape, row, column);
+        return hcode::dependents(shape, row, column);
     }
-    xcode_dependents(shape, row, column)
-}
-
-// The equations that hold a parity cell: its own, and of RDP's row parity the diagonal.
-fn parity_holders(shape: Shape, row: usize, column: usize) -> Holders
-    requires { ⌜ WellFormed shape × ParityCell shape row column ⌝ }
-    ensures { λ r. ⌜ HeldBy shape (cellNumber shape row column) r ⌝ }
-{
-    let p = shape.p;
-    let n = p - 1;
-    if shape.code == 3 {
-        if row == n {
-            return Holders {
-                first: p + column,
-                second: 2 * p,
-            };
-        }
-        return Holders {
-            first: column,
-            second: 2 * p,
-        };
-    }
-    if shape.code == 2 {
-        if column == p {
-            return Holders {
-                first: row,
-                second: 2 * n,
-            };
-        }
-        return Holders {
-            first: n + row,
-            second: 2 * n,
-        };
-    }
-    if column == p {
-        return Holders {
-            first: n + row,
-            second: 2 * n,
-        };
-    }
-    Holders {
-        first: row,
-        second: n + turned(row, n, p),
-    }
-}
-
-// The equations that hold the cell in a row and a column.
-pub fn holders_of(shape: Shape, row: usize, column: usize) -> Holders
-    requires { ⌜ WellFormed shape × (row < rows shape) × (column < columns shape) ⌝ }
-    ensures { λ r. ⌜ HeldBy shape (cellNumber shape row column) r ⌝ }
-{
-    if is_parity(shape, row, column) {
-        return parity_holders(shape, row, column);
-    }
-    let d = dependents_of(shape, row, column);
-    Holders {
-        first: d.first,
-        second: d.second,
-    }
+    xcode::dependents(shape, row, column)
 }

@@ -1,10 +1,10 @@
--- `codes::hcode_line` meets its contract. Each line goes once through the cells that its equation sums.
+-- `codes::hcode::line` meets its contract. Each line goes once through the cells that its equation sums.
 use Prim.Native.Nat.{_+_, _-_}
 use native.Mathlib.Omega.{arith}
 use Rattle.codes.proofs.Shapes.{low, high, equations-other, small-product}
 use Rattle.codes.proofs.Lines.{hcode-row, hcode-anti}
-use Rattle.codes.proofs.hcode_line.Statement.{statement}
-use Rattle.codes.proofs.hcode_line.Tie as tie
+use Rattle.codes.proofs.hcode.line.Statement.{statement}
+use Rattle.codes.proofs.hcode.line.Tie as tie
 
 sub-n : tie.Need-sub-n
 sub-n c = omega (arith, low (c .args .shape) (c .pre .0))
@@ -36,8 +36,8 @@ turned-requires-2 c κs = (omega (arith, equations-other (c .before .args .shape
 returns-2 : tie.Need-returns-2
 returns-2 c = hcode-anti (c .before .before .args .shape) (c .before .before .pre .0) (c .before .before .pre .1) _ _ (c .before .if1 .left) (c .before .before .pre .2) (c .turned2 .ensures)
 
-pub hcode-line-spec : {M : Type 1} → statement M
-hcode-line-spec =
+pub line-spec : {M : Type 1} → statement M
+line-spec =
     tie.close
     (tie.spec
     sub-n

@@ -1,10 +1,10 @@
--- `codes::xcode_line` meets its contract. Each line goes once through the cells that its equation sums.
+-- `codes::xcode::line` meets its contract. Each line goes once through the cells that its equation sums.
 use Prim.Native.Nat.{_-_}
 use native.Mathlib.Omega.{arith}
 use Rattle.codes.proofs.Shapes.{low, high, equations-third, small-product}
 use Rattle.codes.proofs.Lines.{xcode-first, xcode-second}
-use Rattle.codes.proofs.xcode_line.Statement.{statement}
-use Rattle.codes.proofs.xcode_line.Tie as tie
+use Rattle.codes.proofs.xcode.line.Statement.{statement}
+use Rattle.codes.proofs.xcode.line.Tie as tie
 
 mul-t6 : tie.Need-mul-t6
 mul-t6 c = omega (arith, small-product (c .before .args .q) (c .before .args .shape .p) (omega (arith, high (c .before .args .shape) (c .before .pre .0))) (omega (arith, high (c .before .args .shape) (c .before .pre .0))))
@@ -48,8 +48,8 @@ sub-t17 c = omega (arith, low (c .before .before .args .shape) (c .before .befor
 returns-2 : tie.Need-returns-2
 returns-2 c = xcode-second (c .before .before .args .shape) (c .before .before .pre .0) (c .before .before .pre .1) _ _ (c .before .if1 .left) (c .before .before .pre .2) (c .turned2 .ensures)
 
-pub xcode-line-spec : {M : Type 1} → statement M
-xcode-line-spec =
+pub line-spec : {M : Type 1} → statement M
+line-spec =
     tie.close
     (tie.spec
     mul-t6

@@ -1,10 +1,10 @@
--- `codes::rdp_line` meets its contract. Each line goes once through the cells that its equation sums.
+-- `codes::rdp::line` meets its contract. Each line goes once through the cells that its equation sums.
 use Prim.Native.Nat.{_-_}
 use native.Mathlib.Omega.{arith}
 use Rattle.codes.proofs.Shapes.{low, high, equations-other, small-product}
 use Rattle.codes.proofs.Lines.{rdp-row, rdp-diagonal}
-use Rattle.codes.proofs.rdp_line.Statement.{statement}
-use Rattle.codes.proofs.rdp_line.Tie as tie
+use Rattle.codes.proofs.rdp.line.Statement.{statement}
+use Rattle.codes.proofs.rdp.line.Tie as tie
 
 sub-n : tie.Need-sub-n
 sub-n c = omega (arith, low (c .args .shape) (c .pre .0))
@@ -27,5 +27,5 @@ add-t10 c = omega (arith, high (c .before .args .shape) (c .before .pre .0), equ
 returns-2 : tie.Need-returns-2
 returns-2 c = rdp-diagonal (c .before .args .shape) (c .before .pre .0) (c .before .pre .1) _ (c .if1 .left) (c .before .pre .2)
 
-pub rdp-line-spec : {M : Type 1} → statement M
-rdp-line-spec = tie.close (tie.spec sub-n mul-t7 add-t8 returns mul-t9 add-t10 returns-2)
+pub line-spec : {M : Type 1} → statement M
+line-spec = tie.close (tie.spec sub-n mul-t7 add-t8 returns mul-t9 add-t10 returns-2)
