@@ -20,7 +20,7 @@ use Rattle.codes.specs.Shape.{columns, cells, equations, stripeLength, WellForm
 use Rattle.codes.specs.Encoded.{parityCell, sumOver, byteAt, total}
 use Rattle.codes.proofs.Parity.{sum-byte}
 use Rattle.codes.proofs.Solutions.{total-zero}
-use Rattle.stripe.proofs.Built.{built, built-long, built-at, built-byte}
+use Rattle.codes.proofs.Built.{built, built-long, built-at, built-byte}
 use Rattle.codes.specs.Refusals.{refusal, stripeFaults}
 use Rattle.rebuild.specs.declared.BadColumn.{BadColumn}
 use Rattle.rebuild.specs.declared.BadColumn.the-variants.{Clean, Column, Unexplained, Refused}
