@@ -25,7 +25,7 @@ use Rattle.codes.specs.Agree.{inColumns}
 use Rattle.codes.proofs.Solutions.{total-zero, zero-total, solves-same}
 use Rattle.equation.specs.Window.{bytesAt, failsIn}
 use Rattle.equation.proofs.Windows.{not-failing}
-use Rattle.stripe.proofs.Built.{built, built-long, built-at, built-byte}
+use Rattle.codes.proofs.Built.{built, built-long, built-at, built-byte}
 use Rattle.decide.specs.Survivors.{Undetermined, Restores}
 use Rattle.decide.specs.Solver.{mended, Solver}
 use Rattle.decide.proofs.Determined.{kept-cell, columns-determined}
@@ -153,7 +153,7 @@ module _ (s : Shape) (w : WellFormed s) (stripe : List ℕ) (long : length strip
         (λ l. subst (λ (x : ℕ). x < 256) (sym (List·getD-eq-default witness 0 (omega (arith, built-long s byte-of)))) (omega arith))
 
     replaced-by : Replaceable s stripe c
-    unfolding witness byte-of inColumns
+    unfolding witness byte-of inColumns byteAt
     replaced-by = record {
       inside = h .inside;
       replaced = witness;
@@ -172,7 +172,6 @@ module _ (s : Shape) (w : WellFormed s) (stripe : List ℕ) (long : length strip
     }
       where
         byte-small : (k t : ℕ) → byteAt s stripe k t < 256
-        unfolding byteAt
         byte-small k t = bytes _
 
   -- and one that can be replaced explains every byte

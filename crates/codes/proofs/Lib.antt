@@ -7,6 +7,7 @@ pub mod Lines
 pub mod Ordered
 pub mod Parity
 pub mod Places
+pub mod Built
 pub mod Positions
 pub mod Units
 pub mod Held

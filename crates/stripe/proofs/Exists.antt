@@ -19,7 +19,7 @@ use Rattle.codes.proofs.Parity.{sum-same, sum-byte}
 use Rattle.stripe.specs.Encode.{EncodingOf}
 use Rattle.stripe.specs.Write.{Difference, Written, Unit}
 use Rattle.stripe.proofs.Parts.{point, point-other}
-use Rattle.stripe.proofs.Built.{built, built-long, built-at, built-byte}
+use Rattle.codes.proofs.Built.{built, built-long, built-at, built-byte}
 use Rattle.stripe.proofs.Encoding.{settled, holds, stays, one-encoding}
 
 -- parity cells that are set to sums of bytes are bytes

@@ -22,7 +22,7 @@ use Rattle.codes.proofs.Positions.{cell-inside}
 use Rattle.codes.proofs.Places.{cells-apart, cell-ends}
 use Rattle.stripe.specs.Parts.{part, differs, Changed, FromCell}
 use Rattle.stripe.specs.Write.{Written, Depending}
-use Rattle.stripe.proofs.Built.{built, built-long, built-at}
+use Rattle.codes.proofs.Built.{built, built-long, built-at}
 use Rattle.stripe.proofs.Parts.{parts, part-own, part-other, part-none, point-other, not-parity, part-data, parts-solve, parts-own, parts-data, how-many}
 
 module _ (s : Shape) (w : WellFormed s) where
