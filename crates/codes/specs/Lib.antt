@@ -1,4 +1,5 @@
 pub mod Shape
+pub mod Geometry
 pub mod Equations
 pub mod Encoded
 pub mod Refusals
