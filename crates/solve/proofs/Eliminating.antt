@@ -1,5 +1,5 @@
 -- The loop over the lost cells: what the masks are at each, and one turn, on every problem with the first masks.
-use mathlib.Core.Path.{_≡_, refl, sym, ap, _∙_, subst}
+use mathlib.Core.Path.{_≡_, sym, ap, _∙_, subst}
 use mathlib.Core.Bool.{Bool, true, false, not, _&&_}
 use mathlib.Core.List.{List}
 use Prim.Native.Nat.{ℕ, suc, _+_, _-_, _^_, _≤_, _<_}
@@ -12,7 +12,7 @@ use Rattle.xor.proofs.Cases.{by-equal, by-less, and-left, and-right, not-passed
 use Rattle.bits.specs.Bit.{bit, IsLowest}
 use Rattle.elimination.specs.Method.{State, start, free, choose, passed, stopped, run}
 use Rattle.solve.specs.declared.Eliminated.the-variants.{Passed, Stopped}
-use Rattle.solve.specs.Masked.{Sources, startsAt, Holding, Spread, Own, Lists, Problem, outcome, Masked, Eliminates}
+use Rattle.solve.specs.Masked.{Sources, startsAt, Holding, Added, Own, Lists, Problem, outcome, Masked, Eliminates}
 use Rattle.elimination.proofs.Invariant.{chosen-here, chosen-before}
 use Rattle.elimination.proofs.Run.{Passed as PassedTo, Reached, run-reached}
 use Rattle.elimination.proofs.Steps.{run-starts, run-chooses, run-stops, run-skips, run-stays}
@@ -101,7 +101,7 @@ module _ (E u : ℕ) (first : List ℕ) (p : Problem E u first) where
 
     -- equation q is the lowest one
     stands-more : (rows′ sources′ : List ℕ) (q m : ℕ) → length chosen ≡ 64 → q < 64 → IsLowest 64 (startsAt rows unused k) q → Holding E rows k m
-        → Spread rows (bitXor m (2 ^ q)) q rows′ → Spread sources (bitXor m (2 ^ q)) q sources′
+        → Added rows (bitXor m (2 ^ q)) (getD rows q 0) rows′ → Added sources (bitXor m (2 ^ q)) (getD sources q 0) sources′
         → Stands E u first p rows′ sources′ (set chosen k q) (bitXor unused (2 ^ q)) (k + 1)
     stands-more rows′ sources′ q m long lq lowest holding spreadRows spreadSources = record {
       s = s′;
@@ -166,7 +166,7 @@ module _ (E u : ℕ) (first : List ℕ) where
 
   pub sofar-more : (rows sources chosen rows′ sources′ : List ℕ) (unused k q one m : ℕ) → E < 64 → u ≤ 64 → k < u → q < 64
       → IsLowest 64 (startsAt rows unused k) q → one ≡ 2 ^ q → Holding E rows k m
-      → Spread rows (bitXor m one) q rows′ → Spread sources (bitXor m one) q sources′
+      → Added rows (bitXor m one) (getD rows q 0) rows′ → Added sources (bitXor m one) (getD sources q 0) sources′
       → Sofar E u first rows sources chosen unused k → Sofar E u first rows′ sources′ (set chosen k q) (bitXor unused one) (k + 1)
   sofar-more rows sources chosen rows′ sources′ unused k q one m few lu lk lq lowest e holding spreadRows spreadSources h = record {
     low = omega arith;
@@ -175,8 +175,8 @@ module _ (E u : ℕ) (first : List ℕ) where
     longChosen = length-set chosen k q ∙ h .longChosen;
     stands = λ p. subst (λ (x : ℕ). Stands E u first p rows′ sources′ (set chosen k q) (bitXor unused x) (k + 1)) (sym e)
         (stands-more E u first p rows sources chosen unused k few lu lk (h .stands p) rows′ sources′ q m (h .longChosen) lq lowest holding
-        (subst (λ (x : ℕ). Spread rows (bitXor m x) q rows′) e spreadRows)
-        (subst (λ (x : ℕ). Spread sources (bitXor m x) q sources′) e spreadSources));
+        (subst (λ (x : ℕ). Added rows (bitXor m x) (getD rows q 0) rows′) e spreadRows)
+        (subst (λ (x : ℕ). Added sources (bitXor m x) (getD sources q 0) sources′) e spreadSources));
   }
 
   pub sofar-stops : (rows sources chosen : List ℕ) (unused k q : ℕ) → E < 64 → u ≤ 64 → k < u → q ≡ 64 → IsLowest 64 (startsAt rows unused k) q
