@@ -22,6 +22,7 @@ pub use layout::cell_place;
 pub use layout::column_of;
 pub use layout::column_place;
 pub use layout::lies_at;
+pub use layout::place_of;
 
 // What describes a stripe: the code (1 RDP, 2 H-Code, 3 X-Code), the prime, and the bytes in a cell. Any numbers may stand here.
 #[repr(C)]
