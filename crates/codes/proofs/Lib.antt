@@ -1,5 +1,6 @@
--- The laws behind the shape of a stripe, its refusals, the walk through an equation's cells, the order of the equations, and the parity cells that depend on a data cell.
--- Last: that any two columns of a solution are determined by the others.
+-- The laws behind the shape of a stripe, its refusals, the walk through an equation's cells, the order of the equations,
+-- where cells lie, the equations that hold a cell, and the parity cells that depend on a data cell.
+-- Last: that any two columns of a solution are determined by the others, and what follows for the lowest equation that holds a cell.
 pub mod Shapes
 pub mod Refused
 pub mod Residues
