@@ -1,7 +1,6 @@
 -- The laws behind the calls on a stripe, and the theorems about their contracts.
 pub mod Encoding
 pub mod Built
-pub mod Parts
 pub mod Writing
 pub mod Exists
 pub mod OneAnswer

@@ -30,7 +30,7 @@ pub record Written (s : Shape) (c : ℕ) (old bytes new : List ℕ) : Type 0 whe
   pub sum : (k : ℕ) → k < cells s → (t : ℕ) → t < s .cell → byteAt s new k t ≡ byteAt s old k t ⊕ byteAt s difference k t
 
 -- unit has 1 at cell c and zero in all other data, and is encoded: one value for each cell
-pub record Unit (s : Shape) (c : ℕ) (unit : ℕ → ℕ) : Type 0 where
+pub record Alone (s : Shape) (c : ℕ) (unit : ℕ → ℕ) : Type 0 where
   pub own : unit c ≡ 1
   pub zeros : (k : ℕ) → k < cells s → isParity s k ≡ false → k ≢ c → unit k ≡ 0
   pub holds : (q : ℕ) → q < equations s → unit (parityCell s q) ≡ sumOver s q unit
@@ -38,7 +38,7 @@ pub record Unit (s : Shape) (c : ℕ) (unit : ℕ → ℕ) : Type 0 where
 -- n parity cells depend on cell c: those that are not 0 where 1 is put alone at c and encoded
 pub record Depending (s : Shape) (c n : ℕ) : Type 0 where
   pub unit : ℕ → ℕ
-  pub alone : Unit s c unit
+  pub alone : Alone s c unit
   pub size : n ≡ count (cells s) (λ k. isParity s k && not (eqb (unit k) 0))
 
 -- the refusal number that an answer gives; 0 where it gives a count
