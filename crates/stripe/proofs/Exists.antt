@@ -45,7 +45,7 @@ module _ (s : Shape) (w : WellFormed s) (old : List ℕ) (long : length old ≡ 
   unfolding encoding final
   encodes = record {
     long = built-long s final ∙ sym long;
-    kept = λ c lc d t lt. encoding-at c lc t lt ∙ stays s w (λ k. byteAt s old k t) c d (equations s) (le-refl (equations s));
+    kept = record { same = λ c lc d t lt. encoding-at c lc t lt ∙ stays s w (λ k. byteAt s old k t) c d (equations s) (le-refl (equations s)) };
     encoded = record {
       holds = λ q lq t lt.
           encoding-at (parityCell s q) (ordered s w .inside q lq) t lt

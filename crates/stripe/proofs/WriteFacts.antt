@@ -66,9 +66,11 @@ module _ (s : Shape) (w : WellFormed s) (c : ℕ) where
       differences : a .difference ≡ b .difference
       differences =
           same-data s w (a .difference) (b .difference) (a .alone .encoded) (b .alone .encoded)
-          (λ k lk p t lt. by-equal k c
-          (λ e. ap (λ (i : ℕ). byteAt s (a .difference) i t) e ∙ a .alone .own t lt ∙ sym (ap (λ (i : ℕ). byteAt s (b .difference) i t) e ∙ b .alone .own t lt))
-          (λ n. a .alone .zeros k lk p n t lt ∙ sym (b .alone .zeros k lk p n t lt)))
+          (record {
+            same = λ k lk p t lt. by-equal k c
+                (λ e. ap (λ (i : ℕ). byteAt s (a .difference) i t) e ∙ a .alone .own t lt ∙ sym (ap (λ (i : ℕ). byteAt s (b .difference) i t) e ∙ b .alone .own t lt))
+                (λ n. a .alone .zeros k lk p n t lt ∙ sym (b .alone .zeros k lk p n t lt));
+          })
           (a .alone .long) (b .alone .long)
 
 -- an answer that gives a refusal number is that refusal
