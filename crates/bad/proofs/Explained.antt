@@ -20,8 +20,8 @@ use Rattle.codes.specs.Holders.{holds}
 use Rattle.codes.proofs.Shapes.{rows-low}
 use Rattle.codes.proofs.Positions.{row-is, column-is, cell-is, cell-inside}
 use Rattle.codes.proofs.Solutions.{plus, total-plus, total-zero, zero-total, total-holds}
-use Rattle.columns.proofs.TwoColumns.{one-in-column}
-use Rattle.rebuild.specs.Candidate.{Explains, TotalsOf, Without, Candidate}
+use Rattle.columns.proofs.Alone.{lowest-there, lowest-alone}
+use Rattle.bad.specs.Candidate.{Explains, TotalsOf, Without, Candidate}
 
 -- the value of each row in the cells of column c, and 0 elsewhere
 abbrev inColumn : Shape → ℕ → (ℕ → ℕ) → ℕ → ℕ
@@ -105,14 +105,20 @@ module _ (s : Shape) (w : WellFormed s) (c : ℕ) (lc : c < columns s) where
             ∙ sym (total-plus s r f (e .mended) ∙ ap (λ (x : ℕ). total s r f ⊕ x) (total-zero s r (e .mended) (e .solves r lr)) ∙ ⊕-zero (total s r f))
             ∙ column-total y (λ k l n. equal-⊕ (f k) (e .mended k) (sym (e .agree k l n))) r lr
 
-        -- an equation holds no other cell of the column
+        -- the lowest equation that holds a cell holds no other cell of the column
         value-is : (i : ℕ) → i < rows s → h .value i ≡ y (cellNumber s i c)
         value-is i l =
             let by = h .by i l in
-            by .3 ∙ total-is (by .0) (by .1)
+            let inside = cell-inside s w i c l lc in
+            let there = lowest-there s w (cellNumber s i c) inside (by .0) (by .1) in
+            by .2 ∙ total-is (by .0) there
             ∙ xors-one (rows s) (λ j. cond (holds s (by .0) (cellNumber s j c)) (y (cellNumber s j c)) 0) i l
-            (λ j lj n. ap (λ (b : Bool). cond b (y (cellNumber s j c)) 0) (not-passed (λ p. n (one-in-column s w (by .0) (by .1) j i c lj l lc p (by .2)))))
-            ∙ ap (λ (b : Bool). cond b (y (cellNumber s i c)) 0) (by .2)
+            (λ j lj n. ap (λ (b : Bool). cond b (y (cellNumber s j c)) 0)
+            (not-passed (λ p. n (same-row j i lj l (lowest-alone s w (cellNumber s i c) inside (by .0) (by .1) (cellNumber s j c) (column-is s w j c lj ∙ sym (column-is s w i c l)) p)))))
+            ∙ ap (λ (b : Bool). cond b (y (cellNumber s i c)) 0) (by .1 .passes there)
+
+        same-row : (j i : ℕ) → j < rows s → i < rows s → cellNumber s j c ≡ cellNumber s i c → j ≡ i
+        same-row j i lj li e = sym (row-is s w j c lj) ∙ ap (λ (k : ℕ). k % rows s) e ∙ row-is s w i c li
 
   -- ---- the candidate
 

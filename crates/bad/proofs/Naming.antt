@@ -1,82 +1,85 @@
--- From the candidate and its check to what bad column promises.
-use mathlib.Core.Path.{_≡_, sym, ap, ap₂, _∙_, subst}
+-- From the candidate and its check to what bad column promises: first of n bytes of each cell, from byte `at` on, then of the whole stripe.
+use mathlib.Core.Path.{_≡_, refl, sym, ap, ap₂, _∙_, subst}
 use mathlib.Core.Logic.{_≢_}
 use mathlib.Core.List.{List}
-use mathlib.Core.Bool.{Bool, true, cond, _&&_}
-use Prim.Native.Nat.{ℕ, _+_, _*_, _/_, _%_, _≤_, _<_}
+use mathlib.Core.Bool.{Bool, true, false, cond, _||_}
+use Prim.Native.Nat.{ℕ, zero, suc, _+_, _/_, _%_, _^_, _≤_, _<_}
+use native.Mathlib.Nat.{zero-add, mod-lt, mod-eq-of-lt}
 use native.Mathlib.Omega.{arith}
+use lib.Bits.{bitXor, xor-mod}
 use lib.Dec.{eqb}
 use lib.ListN.{length, getD, List·getD-eq-default}
-use lib.Pow.{pow-pos}
-use borrow.Author.Tests.{lt-ltb, le-leb}
-use Rattle.xor.specs.Xor.{xors}
+use borrow.Author.Tests.{eq-eqb, ne-eqb}
+use Rattle.xor.specs.Xor.{_⊕_, xors}
 use Rattle.xor.specs.Runs.{Says}
-use Rattle.xor.proofs.Cases.{by-test, by-equal, by-less}
-use Rattle.xor.proofs.Algebra.{⊕-bits}
-use Rattle.xor.proofs.Sums.{xors-bits}
-use Rattle.bits.specs.Bit.{bit, IsLowest}
+use Rattle.xor.proofs.Cases.{by-equal, by-less, clash}
+use Rattle.xor.proofs.Algebra.{⊕-is}
+use Rattle.xor.proofs.Runs.{says-same}
+use Rattle.xor.proofs.Sums.{xors-same}
+use Rattle.bits.specs.Bit.{IsLowest}
 use Rattle.codes.specs.declared.Shape.{Shape}
-use Rattle.codes.specs.Shape.{columns, cells, equations, stripeLength, WellFormed}
-use Rattle.codes.specs.Encoded.{parityCell, sumOver, byteAt, total}
-use Rattle.codes.proofs.Parity.{sum-byte}
-use Rattle.codes.proofs.Solutions.{total-zero}
-use Rattle.stripe.proofs.Built.{built, built-long, built-at, built-byte}
+use Rattle.codes.specs.Shape.{rows, columns, cells, equations, stripeLength, WellFormed}
+use Rattle.codes.specs.Encoded.{parityCell, sumsCell, byteAt, sumOver, total, Solves, Encoded}
 use Rattle.codes.specs.Refusals.{refusal, stripeFaults}
-use Rattle.rebuild.specs.declared.BadColumn.{BadColumn}
-use Rattle.rebuild.specs.declared.BadColumn.the-variants.{Clean, Column, Unexplained, Refused}
 use Rattle.codes.specs.Agree.{inColumns}
+use Rattle.codes.proofs.Solutions.{total-zero, zero-total, solves-same}
+use Rattle.equation.specs.Window.{bytesAt, failsIn}
+use Rattle.equation.proofs.Windows.{not-failing}
+use Rattle.codes.proofs.Built.{built, built-long, built-at, built-byte}
 use Rattle.decide.specs.Survivors.{Undetermined, Restores}
-use Rattle.rebuild.specs.Bad.{Replaceable, Finding, Finds}
-use Rattle.rebuild.specs.Candidate.{TotalsOf, Candidate}
-use Rattle.decide.specs.Solver.{summed, mended, Solver}
-use Rattle.rebuild.specs.Lanes.{bytesAt, Passes, Filled}
-use Rattle.rebuild.proofs.OneBad.{one-explains, replaceable-explains, not-encoded}
-use Rattle.rebuild.proofs.Never.{columns-determined}
-use Rattle.rebuild.proofs.Rebuilding.{restored, must-pass}
+use Rattle.decide.specs.Solver.{mended, Solver}
+use Rattle.decide.proofs.Determined.{kept-cell, columns-determined}
+use Rattle.lanes.specs.Lanes.{Passes}
+use Rattle.bad.specs.declared.BadColumn.{BadColumn}
+use Rattle.bad.specs.declared.BadColumn.the-variants.{Clean, Column, Unexplained, Refused}
+use Rattle.bad.specs.Bad.{Replaceable, Finding, Finds}
+use Rattle.bad.specs.Candidate.{Explains, TotalsOf, Candidate, ExplainsIn, CleanIn, FindingIn}
+use Rattle.bad.proofs.OneBad.{one-explains}
 
 -- ---- what the candidate says
 
-module _ (s : Shape) (w : WellFormed s) (stripe : List ℕ) (q t : ℕ) (lq : q < equations s) (lt : t < s .cell) (fails′ : total s q (bytesAt s stripe t) ≢ 0)
-    (totals : List ℕ) (of : TotalsOf s (bytesAt s stripe t) totals) (c : ℕ) (candidate : Candidate s totals c) where
-  pub named-column : Replaceable s stripe c → Finding s stripe (Column c)
-  named-column h = (not-encoded s stripe q t lq lt fails′, h)
+module _ (s : Shape) (w : WellFormed s) (stripe : List ℕ) (at n : ℕ) where
+  -- no equation fails
+  pub clean-in : (r : ℕ) → IsLowest (equations s) (λ q. failsIn s stripe q at n) r → r ≡ equations s → CleanIn s stripe at n
+  clean-in r first e i l q lq = zero-total s q (bytesAt s stripe (at + i)) (not-failing s stripe q at n (first .before q (omega arith)) i l)
 
-  pub none-named : c ≡ columns s → Finding s stripe Unexplained
-  none-named e = (not-encoded s stripe q t lq lt fails′, λ d h. candidate .none (bytesAt s stripe t) of (omega arith) d (replaceable-explains s stripe d h t lt))
+  -- a column that explains all bytes explains each
+  explains-one : (c : ℕ) → ExplainsIn s stripe at n c → (i : ℕ) → i < n → Explains s (bytesAt s stripe (at + i)) c
+  explains-one c h i l = record { inside = h .inside; mended = h .mended i; solves = h .solves i l; agree = h .agree i l }
 
-  pub not-this : c ≢ columns s → c ≤ columns s → (Replaceable s stripe c → ⊥) → Finding s stripe Unexplained
-  not-this n most no′ = (
-    not-encoded s stripe q t lq lt fails′,
-    λ d h. by-equal c d (λ e. no′ (subst (Replaceable s stripe) (sym e) h))
-        (λ e. fails′ (total-zero s q (bytesAt s stripe t) (one-explains s w (bytesAt s stripe t) c d (candidate .found (bytesAt s stripe t) of (omega arith)) (replaceable-explains s stripe d h t lt) e q lq))),
-  )
+  module _ (q i : ℕ) (lq : q < equations s) (li : i < n) (fails′ : total s q (bytesAt s stripe (at + i)) ≢ 0)
+      (totals : List ℕ) (of : TotalsOf s (bytesAt s stripe (at + i)) totals) (c : ℕ) (candidate : Candidate s totals c) where
+    not-clean : CleanIn s stripe at n → ⊥
+    not-clean h = fails′ (total-zero s q (bytesAt s stripe (at + i)) (h i li q lq))
 
--- ---- whether one column can be replaced
+    pub named-column : ExplainsIn s stripe at n c → FindingIn s stripe at n (Column c)
+    named-column h = (not-clean, h)
 
--- bytes are mended to bytes
-module _ (s : Shape) (list sets : List ℕ) (f : ℕ → ℕ) (bytes : (c : ℕ) → f c < 256) where
-  summed-byte : (m : ℕ) → summed s m f < 256
-  unfolding summed total
-  summed-byte m =
-      xors-bits 8 (equations s) (λ r. cond (bit r m) (total s r f) 0)
-      (λ r l. by-test (bit r m) (λ p. rw p (⊕-bits 8 (f (parityCell s r)) (sumOver s r f) (bytes (parityCell s r)) (sum-byte s r f (λ d ld. bytes d)))) (λ p. rw p (pow-pos 8)))
+    pub none-named : c ≡ columns s → FindingIn s stripe at n Unexplained
+    none-named e = (not-clean, λ d h. candidate .none (bytesAt s stripe (at + i)) of (omega arith) d (explains-one d h i li))
 
-  mended-byte : (u c : ℕ) → mended s list sets u f c < 256
-  unfolding mended
-  mended-byte u c =
-      ⊕-bits 8 (f c) (xors u (λ j. cond (eqb (getD list j 0) c) (summed s (getD sets j 0) f) 0)) (bytes c)
-      (xors-bits 8 u (λ j. cond (eqb (getD list j 0) c) (summed s (getD sets j 0) f) 0)
-      (λ j l. by-test (eqb (getD list j 0) c) (λ p. rw p (summed-byte (getD sets j 0))) (λ p. rw p (pow-pos 8))))
+    pub not-this : c ≢ columns s → c ≤ columns s → (ExplainsIn s stripe at n c → ⊥) → FindingIn s stripe at n Unexplained
+    not-this other most no′ = (
+      not-clean,
+      λ d h. by-equal c d (λ e. no′ (subst (ExplainsIn s stripe at n) (sym e) h))
+          (λ e. fails′ (total-zero s q (bytesAt s stripe (at + i))
+          (one-explains s w (bytesAt s stripe (at + i)) c d (candidate .found (bytesAt s stripe (at + i)) of (omega arith)) (explains-one d h i li) e q lq))),
+    )
 
-module _ (s : Shape) (w : WellFormed s) (column : ℕ) (inside : column < columns s) (stripe : List ℕ) (long : length stripe ≡ stripeLength s) (bytes : (i : ℕ) → getD stripe i 0 < 256)
+-- ---- whether one column explains the bytes
+
+-- the cells of one column, and those of the others
+module _ (s : Shape) (column : ℕ) (lost : ℕ → Bool) (marks : (c : ℕ) → c < cells s → lost c ≡ inColumns s column column c) where
+  off-column : (k : ℕ) → k < cells s → k / rows s ≢ column → lost k ≡ false
+  unfolding inColumns
+  off-column k l n = marks k l ∙ rw (ne-eqb (k / rows s) column n) refl
+
+  in-column : (k : ℕ) → k < cells s → lost k ≡ false → k / rows s ≢ column
+  unfolding inColumns
+  in-column k l e same = clash (marks k l ∙ ap₂ _||_ (eq-eqb (k / rows s) column same) (eq-eqb (k / rows s) column same)) e
+
+module _ (s : Shape) (w : WellFormed s) (column : ℕ) (inside : column < columns s) (stripe : List ℕ) (at n : ℕ)
     (lost : ℕ → Bool) (marks : (c : ℕ) → c < cells s → lost c ≡ inColumns s column column c) where
-  -- the same survivors, by the map and by the column
-  restores-there : (x : List ℕ) → Restores s lost stripe x → Restores s (inColumns s column column) stripe x
-  restores-there x h = record { is = h .is; agree = record { same = λ c l e. h .agree .same c l (marks c l ∙ e) } }
-
-  restores-back : (x : List ℕ) → Restores s (inColumns s column column) stripe x → Restores s lost stripe x
-  restores-back x h = record { is = h .is; agree = record { same = λ c l e. h .agree .same c l (sym (marks c l) ∙ e) } }
-
   -- one column is never undetermined
   pub column-determined : Undetermined s lost → ⊥
   column-determined h = columns-determined s w column column inside inside (record {
@@ -88,40 +91,104 @@ module _ (s : Shape) (w : WellFormed s) (column : ℕ) (inside : column < column
     differ = h .differ;
   })
 
-  module _ (u : ℕ) (list sets : List ℕ) (v : ℕ) (checks : List ℕ) (solver : Solver s lost u list sets v checks) where
-    -- the stripe with the column mended
+  pub column-says : (u : ℕ) (list sets : List ℕ) (v : ℕ) (checks : List ℕ) → Solver s lost u list sets v checks → (r : Bool)
+      → Says ((i : ℕ) → i < n → Passes s stripe v checks (at + i)) r → Says (ExplainsIn s stripe at n column) r
+  column-says u list sets v checks solver r =
+      says-same ((i : ℕ) → i < n → Passes s stripe v checks (at + i)) (ExplainsIn s stripe at n column) r
+      (λ passes. record {
+        inside = inside;
+        mended = λ i. mended s list sets u (bytesAt s stripe (at + i));
+        solves = λ i l. solver .solves (bytesAt s stripe (at + i)) (passes i l .zero);
+        agree = λ i l k lk off. kept-cell s w lost u list sets v checks solver (bytesAt s stripe (at + i)) k (off-column s column lost marks k lk off);
+      })
+      (λ h i l. record {
+        zero = solver .needed (bytesAt s stripe (at + i)) (h .mended i) (h .solves i l) (λ k lk e. sym (h .agree i l k lk (in-column s column lost marks k lk e)));
+      })
+
+-- ---- the whole stripe
+
+-- values that solve the equations do so in their low eight bits
+module _ (s : Shape) where
+  xors-low : (n : ℕ) (f : ℕ → ℕ) → xors n f % 2 ^ 8 ≡ xors n (λ k. f k % 2 ^ 8)
+  unfolding xors
+  xors-low zero f = refl
+  xors-low (suc n) f =
+      ap (λ (x : ℕ). x % 2 ^ 8) (⊕-is (xors n f) (f n)) ∙ xor-mod (xors n f) (f n) 8 ∙ ap (λ (x : ℕ). bitXor x (f n % 2 ^ 8)) (xors-low n f)
+      ∙ sym (⊕-is (xors n (λ k. f k % 2 ^ 8)) (f n % 2 ^ 8))
+
+  sum-low : (q : ℕ) (f : ℕ → ℕ) → sumOver s q f % 2 ^ 8 ≡ sumOver s q (λ k. f k % 2 ^ 8)
+  unfolding sumOver
+  sum-low q f =
+      xors-low (cells s) (λ c. cond (sumsCell s q c) (f c) 0)
+      ∙ xors-same (cells s) (λ c. cond (sumsCell s q c) (f c) 0 % 2 ^ 8) (λ c. cond (sumsCell s q c) (f c % 2 ^ 8) 0) (λ c l. low (sumsCell s q c) (f c))
+    where
+      low : (b : Bool) (x : ℕ) → cond b x 0 % 2 ^ 8 ≡ cond b (x % 2 ^ 8) 0
+      low true x = refl
+      low false x = refl
+
+  solves-low : (f : ℕ → ℕ) → Solves s f → Solves s (λ k. f k % 2 ^ 8)
+  solves-low f h q l = ap (λ (x : ℕ). x % 2 ^ 8) (h q l) ∙ sum-low q f
+
+module _ (s : Shape) (w : WellFormed s) (stripe : List ℕ) (long : length stripe ≡ stripeLength s) (bytes : (i : ℕ) → getD stripe i 0 < 256) where
+  -- byte 0 + t is byte t
+  whole-clean : CleanIn s stripe 0 (s .cell) → Encoded s stripe
+  whole-clean h = record { holds = λ q lq t l. subst (λ (k : ℕ). byteAt s stripe (parityCell s q) k ≡ sumOver s q (bytesAt s stripe k)) (zero-add t) (h t l q lq) }
+
+  clean-whole : Encoded s stripe → CleanIn s stripe 0 (s .cell)
+  clean-whole e i l q lq = subst (λ (k : ℕ). byteAt s stripe (parityCell s q) k ≡ sumOver s q (bytesAt s stripe k)) (sym (zero-add i)) (e .holds q lq i l)
+
+  -- a column that explains every byte can be replaced
+  module _ (c : ℕ) (h : ExplainsIn s stripe 0 (s .cell) c) where
     byte-of : ℕ → ℕ → ℕ
-    byte-of t c = mended s list sets u (bytesAt s stripe t) c
+    byte-of t k = h .mended t k % 2 ^ 8
 
     witness : List ℕ
     witness = built s byte-of
 
-    witness-filled : Filled s list sets u 0 (s .cell) stripe witness
-    unfolding witness byte-of
-    witness-filled = record {
-      long = built-long s byte-of ∙ sym long;
-      byte = λ c l t lt.
-          built-at s byte-of c l t lt
-          ∙ sym (ap (λ (b : Bool). cond b (mended s list sets u (bytesAt s stripe t) c) (byteAt s stripe c t)) (ap₂ _&&_ (le-leb 0 t (omega arith)) (lt-ltb t (s .cell) lt)));
-    }
-
     witness-bytes : (i : ℕ) → getD witness i 0 < 256
-    unfolding witness byte-of byteAt
+    unfolding witness byte-of
     witness-bytes i =
         by-less i (stripeLength s)
-        (λ l. subst (λ (x : ℕ). x < 256) (sym (built-byte s byte-of i l))
-        (mended-byte s list sets (bytesAt s stripe (i % s .cell)) (λ d. bytes (d * s .cell + i % s .cell)) u (i / s .cell)))
+        (λ l. subst (λ (x : ℕ). x < 256) (sym (built-byte s byte-of i l)) (mod-lt (h .mended (i % s .cell) (i / s .cell)) (omega arith)))
         (λ l. subst (λ (x : ℕ). x < 256) (sym (List·getD-eq-default witness 0 (omega (arith, built-long s byte-of)))) (omega arith))
 
-    pub column-says : (r : Bool) → Says ((t : ℕ) → t < s .cell → Passes s stripe v checks t) r → Says (Replaceable s stripe column) r
-    column-says r h = record {
-      yes = λ e. record {
-        inside = inside;
-        replaced = witness;
-        restores = restores-there witness (restored s w lost u list sets v checks solver stripe witness long witness-bytes (h .yes e) witness-filled);
+    replaced-by : Replaceable s stripe c
+    unfolding witness byte-of inColumns byteAt
+    replaced-by = record {
+      inside = h .inside;
+      replaced = witness;
+      restores = record {
+        is = record {
+          long = built-long s byte-of;
+          bytes = witness-bytes;
+          encoded = record { holds = λ q lq t l. solves-same s w (byte-of t) (bytesAt s witness t) (λ k lk. sym (built-at s byte-of k lk t l)) (solves-low s (h .mended t) (h .solves t l)) q lq };
+        };
+        agree = record {
+          same = λ k lk e t l.
+              let other : k / rows s ≢ c = λ same. clash (ap₂ _||_ (eq-eqb (k / rows s) c same) (eq-eqb (k / rows s) c same)) e in
+              sym (built-at s byte-of k lk t l ∙ ap (λ (x : ℕ). x % 2 ^ 8) (h .agree t l k lk other ∙ ap (byteAt s stripe k) (zero-add t)) ∙ mod-eq-of-lt (byte-small k t));
+        };
       };
-      no = λ e x. h .no e (must-pass s w lost u list sets v checks solver stripe witness long witness-bytes (x .replaced) (restores-back (x .replaced) (x .restores)));
     }
+      where
+        byte-small : (k t : ℕ) → byteAt s stripe k t < 256
+        byte-small k t = bytes _
+
+  -- and one that can be replaced explains every byte
+  explains-whole : (c : ℕ) → Replaceable s stripe c → ExplainsIn s stripe 0 (s .cell) c
+  unfolding inColumns
+  explains-whole c h = record {
+    inside = h .inside;
+    mended = bytesAt s (h .replaced);
+    solves = λ i l q lq. h .restores .is .encoded .holds q lq i l;
+    agree = λ i l k lk other. sym (h .restores .agree .same k lk (rw (ne-eqb (k / rows s) c other) refl) i l) ∙ ap (byteAt s stripe k) (sym (zero-add i));
+  }
+
+  pub finding-whole : (answer : BadColumn) → FindingIn s stripe 0 (s .cell) answer → Finding s stripe answer
+  finding-whole Clean h = whole-clean h
+  finding-whole (Column c) h = (λ e. h .0 (clean-whole e), replaced-by c (h .1))
+  finding-whole Unexplained h = (λ e. h .0 (clean-whole e), λ c r. h .1 c (explains-whole c r))
+  finding-whole (Refused number) h = absurd h
 
 -- an accepted stripe's finding
 pub finding-so : (s : Shape) (stripe : List ℕ) (answer : BadColumn) → 0 ≡ refusal (stripeFaults s (length stripe)) → Finding s stripe answer → Finds s stripe answer

@@ -2,23 +2,26 @@
 use mathlib.Core.Path.{_≡_, refl, sym, ap, ap₂, _∙_, subst}
 use mathlib.Core.Logic.{_≢_}
 use mathlib.Core.List.{List}
-use mathlib.Core.Bool.{Bool, true, false, cond, _||_}
-use Prim.Native.Nat.{ℕ, _+_, _≤_, _<_}
+use mathlib.Core.Bool.{Bool, true, false, cond, not, _&&_}
+use Prim.Native.Nat.{ℕ, _+_, _-_, _≤_, _<_}
 use native.Mathlib.Omega.{arith}
-use lib.Bits.{bitXor}
-use lib.Dec.{eqb}
+use lib.Bits.{bitXor, bitAnd}
+use lib.Dec.{eqb, ltb}
 use lib.ListN.{length, getD, set, length-set}
 use lib.Seq.{getD-set-same, getD-set-other}
-use borrow.Author.Tests.{eq-eqb, ne-eqb, eqb-true}
+use borrow.Author.Tests.{eq-eqb, ne-eqb, lt-ltb, ltb-true}
 use Rattle.xor.specs.Xor.{_⊕_, xors}
-use Rattle.xor.proofs.Cases.{by-equal, or-left}
-use Rattle.xor.proofs.Algebra.{⊕-is, zero-⊕, ⊕-zero, ⊕-assoc}
+use Rattle.xor.proofs.Cases.{by-test, by-equal, by-less, clash, and-left, and-right}
+use Rattle.xor.proofs.Algebra.{⊕-is, ⊕-zero, ⊕-assoc}
 use Rattle.xor.proofs.Sums.{xors-none, xors-more, xors-same}
+use Rattle.bits.specs.Bit.{bit, IsLowest}
+use Rattle.bits.proofs.Bits.{bit-zero}
+use Rattle.bits.proofs.Masks.{clear-lowest}
 use Rattle.codes.specs.declared.Shape.{Shape}
-use Rattle.codes.specs.declared.Holders.{Holders}
-use Rattle.codes.specs.Shape.{equations, cellNumber}
+use Rattle.codes.specs.Shape.{cells, equations, cellNumber, WellFormed}
 use Rattle.codes.specs.Holders.{holds, HeldBy}
-use Rattle.rebuild.specs.Candidate.{Without}
+use Rattle.codes.proofs.Depends.{held-some}
+use Rattle.bad.specs.Candidate.{XoredIn, Without}
 
 -- ---- one entry
 
@@ -27,35 +30,105 @@ pub filled-more : (f : ℕ → ℕ) (old : List ℕ) (q x : ℕ) → q < length 
 filled-more f old q x l before here k lk =
     by-equal k q (λ e. ap (λ (j : ℕ). getD (set old q x) j 0) e ∙ getD-set-same old q x 0 l ∙ here ∙ ap f (sym e)) (λ n. getD-set-other old q k x 0 n ∙ before k (omega arith))
 
--- new is old with x XORed into entry q, as far as the entries below n go
-pub record Xored (n : ℕ) (old : List ℕ) (q x : ℕ) (new : List ℕ) : Type 0 where
-  pub long : length new ≡ length old
-  pub at : (k : ℕ) → k < n → getD new k 0 ≡ getD old k 0 ⊕ cond (eqb k q) x 0
+-- ---- the entries of a set: those in rest are still to come
 
--- entries other than q
-kept : (k q x : ℕ) (old : List ℕ) → k ≢ q → getD old k 0 ≡ getD old k 0 ⊕ cond (eqb k q) x 0
-kept k q x old n = sym (⊕-zero (getD old k 0)) ∙ ap (λ (b : Bool). getD old k 0 ⊕ cond b x 0) (sym (ne-eqb k q n))
+pub record XoredTo (old : List ℕ) (whole x rest : ℕ) (now′ : List ℕ) : Type 0 where
+  pub long : length now′ ≡ 64
+  pub within : (k : ℕ) → bit k rest ≡ true → bit k whole ≡ true
+  pub at : (k : ℕ) → k < 64 → getD now′ k 0 ≡ getD old k 0 ⊕ cond (bit k whole && not (bit k rest)) x 0
 
-pub xored-in : (n q x : ℕ) (old new : List ℕ) → q < length old → new ≡ set old q (bitXor (getD old q 0) x) → Xored n old q x new
-xored-in n q x old new l is = record {
-  long = ap length is ∙ length-set old q (bitXor (getD old q 0) x);
-  at = λ k lk. ap (λ (xs : List ℕ). getD xs k 0) is ∙ by-equal k q
-      (λ e. ap (λ (j : ℕ). getD (set old q (bitXor (getD old q 0) x)) j 0) e ∙ getD-set-same old q (bitXor (getD old q 0) x) 0 l
-      ∙ sym (⊕-is (getD old q 0) x) ∙ ap₂ (λ (j : ℕ) (b : Bool). getD old j 0 ⊕ cond b x 0) (sym e) (sym (eq-eqb k q e)))
-      (λ m. getD-set-other old q k (bitXor (getD old q 0) x) 0 m ∙ kept k q x old m);
-}
+-- a member is still to come, or it isn't
+gone : (b r : Bool) → r ≡ true → (b && not r) ≡ false
+gone true true e = refl
+gone false true e = refl
+gone b false e = clash e refl
 
--- no entry below n
-pub xored-out : (n q x : ℕ) (old new : List ℕ) → n ≤ q → new ≡ old → Xored n old q x new
-xored-out n q x old new l is = record { long = ap length is; at = λ k lk. ap (λ (xs : List ℕ). getD xs k 0) is ∙ kept k q x old (λ e. omega arith) }
+there : (b r : Bool) → b ≡ true → r ≡ false → (b && not r) ≡ true
+there true false e p = refl
+there b true e p = clash refl p
+there false r e p = clash e refl
+
+module _ (old : List ℕ) (whole x : ℕ) where
+  pub xored-none : length old ≡ 64 → XoredTo old whole x whole old
+  xored-none long = record {
+    long = long;
+    within = λ k p. p;
+    at = λ k l. sym (⊕-zero (getD old k 0)) ∙ ap (λ (b : Bool). getD old k 0 ⊕ cond b x 0) (sym (none (bit k whole)));
+  }
+    where
+      none : (b : Bool) → (b && not b) ≡ false
+      none true = refl
+      none false = refl
+
+  -- the lowest that is still to come
+  pub xored-more : (rest q : ℕ) (mid : List ℕ) → q < 64 → IsLowest 64 (λ k. bit k rest) q → XoredTo old whole x rest mid
+      → XoredTo old whole x (bitAnd rest (rest - 1)) (set mid q (bitXor (getD mid q 0) x))
+  xored-more rest q mid lq lowest h = record {
+    long = length-set mid q (bitXor (getD mid q 0) x) ∙ h .long;
+    within = λ k p. h .within k (and-left (bit k rest) (not (eqb k q)) (sym (left k) ∙ p));
+    at = λ k l. by-equal k q
+        (λ e. ap (λ (j : ℕ). getD (set mid q (bitXor (getD mid q 0) x)) j 0) e ∙ getD-set-same mid q (bitXor (getD mid q 0) x) 0 (omega (arith, h .long))
+        ∙ sym (⊕-is (getD mid q 0) x) ∙ ap (λ (y : ℕ). y ⊕ x) (was q lq here ∙ ap (λ (j : ℕ). getD old j 0) (sym e))
+        ∙ ap (λ (b : Bool). getD old k 0 ⊕ cond b x 0) (sym (there (bit k whole) (bit k (bitAnd rest (rest - 1))) (h .within k (ap (λ (j : ℕ). bit j rest) e ∙ here)) (out k e))))
+        (λ n. getD-set-other mid q k (bitXor (getD mid q 0) x) 0 n ∙ h .at k l ∙ ap (λ (b : Bool). getD old k 0 ⊕ cond (bit k whole && not b) x 0) (same k n));
+  }
+    where
+      left : (k : ℕ) → bit k (bitAnd rest (rest - 1)) ≡ (bit k rest && not (eqb k q))
+      left = clear-lowest 64 rest q lowest lq
+
+      here : bit q rest ≡ true
+      here = lowest .passes lq
+
+      -- before its turn an entry is as it was
+      was : (k : ℕ) → k < 64 → bit k rest ≡ true → getD mid k 0 ≡ getD old k 0
+      was k l p = h .at k l ∙ ap (λ (b : Bool). getD old k 0 ⊕ cond b x 0) (gone (bit k whole) (bit k rest) p) ∙ ⊕-zero (getD old k 0)
+
+      out : (k : ℕ) → k ≡ q → bit k (bitAnd rest (rest - 1)) ≡ false
+      out k e = left k ∙ ap (λ (b : Bool). bit k rest && not b) (eq-eqb k q e) ∙ nothing (bit k rest)
+        where
+          nothing : (b : Bool) → (b && false) ≡ false
+          nothing true = refl
+          nothing false = refl
+
+      same : (k : ℕ) → k ≢ q → bit k rest ≡ bit k (bitAnd rest (rest - 1))
+      same k n = sym (left k ∙ ap (λ (b : Bool). bit k rest && not b) (ne-eqb k q n) ∙ all (bit k rest))
+        where
+          all : (b : Bool) → (b && true) ≡ b
+          all true = refl
+          all false = refl
+
+  pub xored-all : (rest : ℕ) (new : List ℕ) → rest ≡ 0 → XoredTo old whole x rest new → XoredIn old whole x new
+  xored-all rest new e h = record {
+    long = h .long;
+    at = λ k l. h .at k l ∙ ap (λ (b : Bool). getD old k 0 ⊕ cond b x 0) (ap (λ (b : Bool). bit k whole && not b) (ap (bit k) e ∙ bit-zero k) ∙ whole-of (bit k whole));
+  }
+    where
+      whole-of : (b : Bool) → (b && true) ≡ b
+      whole-of true = refl
+      whole-of false = refl
 
 -- ---- one row
 
--- tests that don't pass together
-apart-sum : (a b : Bool) (x : ℕ) → (a ≡ true → b ≡ true → ⊥) → cond a x 0 ⊕ cond b x 0 ≡ cond (a || b) x 0
-apart-sum true true x n = absurd (n refl refl)
-apart-sum true false x n = ⊕-zero x
-apart-sum false b x n = zero-⊕ (cond b x 0)
+module _ (s : Shape) (w : WellFormed s) (c m : ℕ) (inside : c < cells s) (held : HeldBy s c m) where
+  -- some equation holds the cell
+  pub held-not-none : m ≢ 0
+  held-not-none e =
+      let some = held-some s w c inside in
+      clash (held .bits (some .0) ∙ ap₂ _&&_ (lt-ltb (some .0) (equations s) (some .1)) (some .2)) (ap (bit (some .0)) e ∙ bit-zero (some .0))
+
+  -- the lowest member of the set is the lowest equation that holds the cell
+  pub held-lowest : (q : ℕ) → q < 64 → IsLowest 64 (λ k. bit k m) q → IsLowest (equations s) (λ k. holds s k c) q
+  held-lowest q lq lowest = record {
+    most = omega (arith, below);
+    passes = λ l. and-right (ltb q (equations s)) (holds s q c) in-set;
+    before = λ k l. by-test (holds s k c) (λ p. clash (held .bits k ∙ ap₂ _&&_ (lt-ltb k (equations s) (omega (arith, below))) p) (lowest .before k l)) (λ p. p);
+  }
+    where
+      in-set : (ltb q (equations s) && holds s q c) ≡ true
+      in-set = sym (held .bits q) ∙ lowest .passes lq
+
+      below : q < equations s
+      below = ltb-true q (equations s) (and-left (ltb q (equations s)) (holds s q c) in-set)
 
 module _ (s : Shape) (totals : List ℕ) (column : ℕ) where
   pub without-none : Without s totals column 0 totals
@@ -65,26 +138,20 @@ module _ (s : Shape) (totals : List ℕ) (column : ℕ) where
     left = λ q l. sym (⊕-zero (getD totals q 0)) ∙ ap (λ (x : ℕ). getD totals q 0 ⊕ x) (sym (xors-none (λ i. cond (holds s q (cellNumber s i column)) 0 0)));
   }
 
-  -- the cell in row i takes in x, the total of the first equation that holds it
-  pub without-more : (i x : ℕ) (rest mid next : List ℕ) (h : Holders) → Without s totals column i rest → HeldBy s (cellNumber s i column) h → x ≡ getD totals (h .first) 0
-      → Xored (equations s) rest (h .first) x mid → Xored (equations s) mid (h .second) x next → Without s totals column (i + 1) next
-  without-more i x rest mid next h before held total first second = record {
+  -- the cell in row i takes in x, the total of the lowest equation that holds it
+  pub without-more : (i x m low : ℕ) (rest next : List ℕ) → equations s ≤ 64 → Without s totals column i rest → HeldBy s (cellNumber s i column) m
+      → IsLowest (equations s) (λ k. holds s k (cellNumber s i column)) low → x ≡ getD totals low 0 → XoredIn rest m x next → Without s totals column (i + 1) next
+  without-more i x m low rest next few before held lowest total put = record {
     value = value;
     by = λ j l. by-equal j i
-        (λ e. (
-          h .first,
-          held .there,
-          ap (λ (k : ℕ). holds s (h .first) (cellNumber s k column)) e ∙ held .held (h .first) (held .there) ∙ or-left (eqb (h .first) (h .second)) (eq-eqb (h .first) (h .first) refl),
-          here j e ∙ total,
-        ))
-        (λ n. let found = before .by j (omega arith) in (found .0, found .1, found .2, other j n ∙ found .3));
+        (λ e. (low, subst (λ (k : ℕ). IsLowest (equations s) (λ r. holds s r (cellNumber s k column)) low) (sym e) lowest, here j e ∙ total))
+        (λ n. let found = before .by j (omega arith) in (found .0, found .1, other j n ∙ found .2));
     left = λ q l.
-        second .at q l
-        ∙ ap (λ (y : ℕ). y ⊕ cond (eqb q (h .second)) x 0) (first .at q l ∙ ap (λ (y : ℕ). y ⊕ cond (eqb q (h .first)) x 0) (before .left q l))
-        ∙ ⊕-assoc (getD totals q 0 ⊕ xors i (part q (before .value))) (cond (eqb q (h .first)) x 0) (cond (eqb q (h .second)) x 0)
-        ∙ ⊕-assoc (getD totals q 0) (xors i (part q (before .value))) (cond (eqb q (h .first)) x 0 ⊕ cond (eqb q (h .second)) x 0)
+        put .at q (omega arith)
+        ∙ ap₂ _⊕_ (before .left q l) (ap (λ (b : Bool). cond b x 0) (held .bits q ∙ ap (λ (b : Bool). b && holds s q (cellNumber s i column)) (lt-ltb q (equations s) l)) ∙ own q)
+        ∙ ⊕-assoc (getD totals q 0) (xors i (part q (before .value))) (part q value i)
         ∙ ap (λ (y : ℕ). getD totals q 0 ⊕ y)
-        (ap₂ _⊕_ (xors-same i (part q (before .value)) (part q value) (λ j lj. ap (λ (y : ℕ). cond (holds s q (cellNumber s j column)) y 0) (sym (other j (λ e. omega arith))))) (own q l)
+        (ap (λ (y : ℕ). y ⊕ part q value i) (xors-same i (part q (before .value)) (part q value) (λ j lj. ap (λ (y : ℕ). cond (holds s q (cellNumber s j column)) y 0) (sym (other j (λ e. omega arith)))))
         ∙ sym (xors-more i (part q value)));
   }
     where
@@ -101,10 +168,8 @@ module _ (s : Shape) (totals : List ℕ) (column : ℕ) where
       part : ℕ → (ℕ → ℕ) → ℕ → ℕ
       part q v j = cond (holds s q (cellNumber s j column)) (v j) 0
 
-      own : (q : ℕ) → q < equations s → cond (eqb q (h .first)) x 0 ⊕ cond (eqb q (h .second)) x 0 ≡ part q value i
-      own q l =
-          apart-sum (eqb q (h .first)) (eqb q (h .second)) x (λ p r. held .apart (sym (eqb-true q (h .first) p) ∙ eqb-true q (h .second) r))
-          ∙ ap₂ (λ (b : Bool) (y : ℕ). cond b y 0) (sym (held .held q l)) (sym (here i refl))
+      own : (q : ℕ) → part q (λ j. x) i ≡ part q value i
+      own q = ap (λ (y : ℕ). cond (holds s q (cellNumber s i column)) y 0) (sym (here i refl))
 
   -- all rows
   pub without-all : (i n : ℕ) (rest : List ℕ) → i ≡ n → Without s totals column i rest → Without s totals column n rest

@@ -7,8 +7,8 @@ use Rattle.codes.specs.declared.Shape.{Shape}
 use Rattle.codes.specs.Shape.{columns}
 use Rattle.codes.specs.Encoded.{Encoded}
 use Rattle.codes.specs.Refusals.{refusal, stripeFaults}
-use Rattle.rebuild.specs.declared.BadColumn.{BadColumn}
-use Rattle.rebuild.specs.declared.BadColumn.the-variants.{Clean, Column, Unexplained, Refused}
+use Rattle.bad.specs.declared.BadColumn.{BadColumn}
+use Rattle.bad.specs.declared.BadColumn.the-variants.{Clean, Column, Unexplained, Refused}
 use Rattle.codes.specs.Agree.{inColumns}
 use Rattle.decide.specs.Survivors.{Restores}
 

@@ -1,15 +1,20 @@
--- The search for the column that could explain one failing byte: on the values in that byte of each cell, and on the totals of the equations over them.
+-- The search for the column that could explain what fails: in one byte, on the values that it has in each cell and the totals of the equations over
+-- them; then in all bytes that are looked at.
 use mathlib.Core.Path.{_≡_}
 use mathlib.Core.Logic.{_≢_}
 use mathlib.Core.List.{List}
-use mathlib.Core.Bool.{true, cond}
-use Prim.Native.Nat.{ℕ, _/_, _≤_, _<_}
-use lib.ListN.{getD}
+use mathlib.Core.Bool.{cond}
+use Prim.Native.Nat.{ℕ, _+_, _/_, _≤_, _<_}
+use lib.ListN.{length, getD}
 use Rattle.xor.specs.Xor.{_⊕_, xors}
+use Rattle.bits.specs.Bit.{bit, IsLowest}
 use Rattle.codes.specs.declared.Shape.{Shape}
 use Rattle.codes.specs.Shape.{rows, columns, cells, equations, cellNumber}
-use Rattle.codes.specs.Encoded.{total, Solves}
+use Rattle.codes.specs.Encoded.{byteAt, total, Solves}
 use Rattle.codes.specs.Holders.{holds}
+use Rattle.equation.specs.Window.{bytesAt}
+use Rattle.bad.specs.declared.BadColumn.{BadColumn}
+use Rattle.bad.specs.declared.BadColumn.the-variants.{Clean, Column, Unexplained, Refused}
 
 -- column c explains the values f: some solution agrees with f off column c
 pub record Explains (s : Shape) (f : ℕ → ℕ) (c : ℕ) : Type 0 where
@@ -22,10 +27,15 @@ pub record Explains (s : Shape) (f : ℕ → ℕ) (c : ℕ) : Type 0 where
 pub record TotalsOf (s : Shape) (f : ℕ → ℕ) (totals : List ℕ) : Type 0 where
   pub of : (q : ℕ) → q < equations s → getD totals q 0 ≡ total s q f
 
--- rest is what the totals become when the cells of a column, in the first n rows, each take in the total of an equation that holds them
+-- new is old with x XORed into the totals of the equations in the set
+pub record XoredIn (old : List ℕ) (set x : ℕ) (new : List ℕ) : Type 0 where
+  pub long : length new ≡ 64
+  pub at : (q : ℕ) → q < 64 → getD new q 0 ≡ getD old q 0 ⊕ cond (bit q set) x 0
+
+-- rest is what the totals become when the cells of a column, in the first n rows, each take in the total of the lowest equation that holds them
 pub record Without (s : Shape) (totals : List ℕ) (column n : ℕ) (rest : List ℕ) : Type 0 where
   pub value : ℕ → ℕ
-  pub by : (i : ℕ) → i < n → (q : ℕ) × (q < equations s) × (holds s q (cellNumber s i column) ≡ true) × (value i ≡ getD totals q 0)
+  pub by : (i : ℕ) → i < n → (q : ℕ) × IsLowest (equations s) (λ k. holds s k (cellNumber s i column)) q × (value i ≡ getD totals q 0)
   pub left : (q : ℕ) → q < equations s → getD rest q 0 ≡ getD totals q 0 ⊕ xors n (λ i. cond (holds s q (cellNumber s i column)) (value i) 0)
 
 -- r is a column that explains any values with these totals; or it is the number of columns, and none explains them
@@ -33,3 +43,23 @@ pub record Candidate (s : Shape) (totals : List ℕ) (r : ℕ) : Type 0 where
   pub most : r ≤ columns s
   pub found : (f : ℕ → ℕ) → TotalsOf s f totals → r < columns s → Explains s f r
   pub none : (f : ℕ → ℕ) → TotalsOf s f totals → columns s ≤ r → (c : ℕ) → Explains s f c → ⊥
+
+-- ---- n bytes of each cell, from byte `at` on
+
+-- column c explains them: in each byte some solution agrees with the stripe off column c
+pub record ExplainsIn (s : Shape) (stripe : List ℕ) (at n c : ℕ) : Type 0 where
+  pub inside : c < columns s
+  pub mended : ℕ → ℕ → ℕ
+  pub solves : (i : ℕ) → i < n → Solves s (mended i)
+  pub agree : (i : ℕ) → i < n → (k : ℕ) → k < cells s → k / rows s ≢ c → mended i k ≡ byteAt s stripe k (at + i)
+
+-- no equation fails in them
+abbrev pub CleanIn : Shape → List ℕ → ℕ → ℕ → Type 0
+CleanIn s stripe at n = (i : ℕ) → i < n → Solves s (bytesAt s stripe (at + i))
+
+-- what a finding says of them
+abbrev pub FindingIn : Shape → List ℕ → ℕ → ℕ → BadColumn → Type 0
+FindingIn s stripe at n Clean = CleanIn s stripe at n
+FindingIn s stripe at n (Column c) = (CleanIn s stripe at n → ⊥) × ExplainsIn s stripe at n c
+FindingIn s stripe at n Unexplained = (CleanIn s stripe at n → ⊥) × ((c : ℕ) → ExplainsIn s stripe at n c → ⊥)
+FindingIn s stripe at n (Refused number) = ⊥

@@ -7,8 +7,8 @@ ghost use lib.ListN.{length};
 ghost use Rattle.xor.specs.Runs.{Says};
 ghost use Rattle.codes.specs.Shape.{rows, columns, equations, stripeLength, WellFormed};
 ghost use Rattle.equation.specs.Window.{bytesAt, Window, failsIn};
-ghost use Rattle.bad.specs.Bad.{Replaceable, Finding, Finds};
-ghost use Rattle.bad.specs.Candidate.{TotalsOf, Without, Candidate};
+ghost use Rattle.bad.specs.Bad.{Finds};
+ghost use Rattle.bad.specs.Candidate.{TotalsOf, XoredIn, Without, Candidate, ExplainsIn, FindingIn};
 use codes::Shape;
 use decide::Decided;
 
@@ -35,25 +35,33 @@ fn totals_at(shape: Shape, stripe: &[u8], t: usize) -> [u8; 64]
     totals
 }
 
-// What is left of the totals when each cell of a column takes in the total of the first equation that holds it.
+// XORs x into the totals of the equations in a set.
+fn add_to(totals: &mut [u8; 64], set: u64, x: u8)
+    requires { ⌜ length (now totals) ≡ 64 ⌝ }
+    ensures { λ _. ⌜ XoredIn (now (totals .entry)) set x (now (totals .exit)) ⌝ }
+{
+    let mut rest = set;
+    while rest != 0 {
+        let q = bits::lowest_bit(rest) as usize;
+        totals[q] = totals[q] ^ x;
+        rest = rest & (rest - 1);
+    }
+}
+
+// What is left of the totals when each cell of a column takes in the total of the lowest equation that holds it.
 // Where the column alone is wrong, that is how its cells differ from the right ones, and nothing is left.
 fn without_column(shape: Shape, totals: [u8; 64], column: usize) -> [u8; 64]
     requires { ⌜ WellFormed shape × (column < columns shape) ⌝ }
     ensures { λ r. ⌜ Without shape totals column (rows shape) r ⌝ }
 {
-    let equations = codes::equation_count(shape);
     let rows = codes::row_count(shape);
     let mut rest = totals;
     let mut i = 0;
     while i < rows {
-        let h = codes::holders_of(shape, i, column);
-        let first = h.first;
-        let second = h.second;
+        let held = codes::holders_of(shape, i, column);
+        let first = bits::lowest_bit(held) as usize;
         let x = totals[first];
-        rest[first] = rest[first] ^ x;
-        if second < equations {
-            rest[second] = rest[second] ^ x;
-        }
+        add_to(&mut rest, held, x);
         i += 1;
     }
     rest
@@ -85,10 +93,10 @@ fn candidate(shape: Shape, totals: [u8; 64]) -> usize
     found
 }
 
-// Whether the replacement of one column alone makes the stripe encoded.
-fn column_agrees(shape: Shape, stripe: &[u8], column: usize) -> bool
-    requires { ⌜ WellFormed shape × (length (now stripe) ≡ stripeLength shape) × (column < columns shape) ⌝ }
-    ensures { λ r. ⌜ Says (Replaceable shape (now (stripe .entry)) column) r ⌝ }
+// Whether one column alone explains n bytes of the stripe from byte `at` on.
+fn column_agrees(shape: Shape, stripe: &[u8], column: usize, at: usize, n: usize) -> bool
+    requires { ⌜ Window shape (now stripe) at n × (column < columns shape) ⌝ }
+    ensures { λ r. ⌜ Says (ExplainsIn shape (now (stripe .entry)) at n column) r ⌝ }
 {
     let map = decide::mark_columns(shape, column, column);
     let mut listed = [0usize; 64];
@@ -99,25 +107,37 @@ fn column_agrees(shape: Shape, stripe: &[u8], column: usize) -> bool
         return false;
     };
     let mut lanes = [0u8; 32768];
-    survivors_agree(shape, stripe, &checks, v, &mut lanes)
+    lanes::survivors_agree(shape, stripe, &checks, v, at, n, &mut lanes)
 }
 
-// The bad column of a stripe in which equation q fails. At the first byte in which it does at most one column can explain what fails,
-// and that one is then held to the whole stripe.
-fn name_column(shape: Shape, stripe: &[u8], q: usize) -> BadColumn
-    requires { ⌜ WellFormed shape × (length (now stripe) ≡ stripeLength shape) × (q < equations shape) × (fails shape (now stripe) q ≡ true) ⌝ }
-    ensures { λ r. ⌜ Finding shape (now (stripe .entry)) r ⌝ }
+// The bad column of n bytes from byte `at` on, in one of which equation q fails. At the first byte in which it does at most one column can
+// explain what fails, and that one is then held to all of them.
+fn name_column(shape: Shape, stripe: &[u8], q: usize, at: usize, n: usize) -> BadColumn
+    requires { ⌜ Window shape (now stripe) at n × (q < equations shape) × (failsIn shape (now stripe) q at n ≡ true) ⌝ }
+    ensures { λ r. ⌜ FindingIn shape (now (stripe .entry)) at n r ⌝ }
 {
-    let t = failing_byte(shape, stripe, q);
-    let totals = totals_at(shape, stripe, t);
+    let i = equation::failing_byte(shape, stripe, q, at, n);
+    let totals = totals_at(shape, stripe, at + i);
     let c = candidate(shape, totals);
     if c == codes::column_count(shape) {
         return BadColumn::Unexplained;
     }
-    if column_agrees(shape, stripe, c) {
+    if column_agrees(shape, stripe, c, at, n) {
         return BadColumn::Column(c);
     }
     BadColumn::Unexplained
+}
+
+// What is found in n bytes of each cell, from byte `at` on.
+fn find(shape: Shape, stripe: &[u8], at: usize, n: usize) -> BadColumn
+    requires { ⌜ Window shape (now stripe) at n ⌝ }
+    ensures { λ r. ⌜ FindingIn shape (now (stripe .entry)) at n r ⌝ }
+{
+    let q = equation::first_failing(shape, stripe, at, n);
+    if q == codes::equation_count(shape) {
+        return BadColumn::Clean;
+    }
+    name_column(shape, stripe, q, at, n)
 }
 
 // Bad column: clean if the stripe is encoded; else the one column whose replacement alone makes it encoded; else unexplained.
@@ -129,9 +149,5 @@ pub fn bad_column(shape: Shape, stripe: &[u8]) -> BadColumn
     if number != 0 {
         return BadColumn::Refused(number);
     }
-    let q = first_failing(shape, stripe);
-    if q == codes::equation_count(shape) {
-        return BadColumn::Clean;
-    }
-    name_column(shape, stripe, q)
+    find(shape, stripe, 0, shape.cell)
 }

@@ -3,7 +3,7 @@ use mathlib.Core.Path.{_≡_, refl, sym, ap, ap₂, _∙_, subst}
 use mathlib.Core.Logic.{_≢_}
 use mathlib.Core.Bool.{Bool, true, false, cond, _&&_, _||_}
 use Prim.Native.Nat.{ℕ, _+_, _-_, _/_, _%_, _≤_, _<_}
-use native.Mathlib.Nat.{mod-lt, mod-eq-of-lt, add-mod-right, add-comm, div-lt-iff-lt-mul, div-add-mod'}
+use native.Mathlib.Nat.{mod-lt, mod-eq-of-lt, add-mod-right, add-comm}
 use native.Mathlib.Omega.{arith}
 use lib.Bits.{bitOr}
 use lib.Dec.{eqb, ltb}
@@ -16,15 +16,16 @@ use Rattle.xor.proofs.Sets.{any-some}
 use Rattle.bits.specs.Bit.{bit}
 use Rattle.bits.proofs.Bits.{bit-or, bit-zero}
 use Rattle.codes.specs.declared.Shape.{Shape}
-use Rattle.codes.specs.Shape.{rows, columns, cells, equations, cellNumber, WellFormed}
+use Rattle.codes.specs.Shape.{rows, cells, equations, cellNumber, WellFormed}
 use Rattle.codes.specs.Encoded.{parityCell, sumsCell, isParity}
 use Rattle.codes.specs.Depends.{DataCell, DependOn}
 use Rattle.codes.specs.Holders.{holds, HeldBy}
-use Rattle.codes.proofs.Shapes.{low, rows-low, columns-third}
+use Rattle.codes.proofs.Shapes.{low, columns-third}
 use Rattle.codes.proofs.Residues.{there-and-back}
 use Rattle.codes.proofs.Lines.{rdp-rows, hcode-rows, hcode-columns}
 use Rattle.codes.proofs.Ordered.{ordered, after, sums-parity}
 use Rattle.codes.proofs.Positions.{cell-inside, rdp-n, rdp-first, rdp-parity, rdp-sums, hcode-n, hcode-parity, hcode-sums, xcode-n, xcode-parity, xcode-sums}
+use Rattle.codes.proofs.Geometry.{number-at, row-at, column-at}
 use Rattle.codes.proofs.Held.{data-holds, parity-holds, none-after, held-below, held-is}
 use Rattle.codes.proofs.Units.{depend}
 
@@ -70,21 +71,8 @@ module _ (s : Shape) (w : WellFormed s) (c : ℕ) (inside : c < cells s) (plain 
           own : eqb (parityCell s r) (parityCell s q) ≡ true → (sumsCell s q c || sumsCell s q (parityCell s r)) ≡ true
           own e = or-left (sumsCell s q (parityCell s r)) (ap (λ (o : ℕ). sumsCell s o c) (ordered s w .once q r l lr (sym (eqb-true (parityCell s r) (parityCell s q) e))) ∙ first)
 
--- a cell by its row and column
-module _ (s : Shape) (w : WellFormed s) (c : ℕ) where
-  pub number-at : cellNumber s (c % rows s) (c / rows s) ≡ c
-  unfolding cellNumber
-  number-at = div-add-mod' c (rows s)
-
-  pub column-at : c < cells s → c / rows s < columns s
-  unfolding cells
-  column-at l = div-lt-iff-lt-mul tall .1 l
-    where
-      tall : 0 < rows s
-      tall = omega (arith, rows-low s w)
-
-  pub data-at : c < cells s → isParity s c ≡ false → DataCell s (c % rows s) (c / rows s)
-  data-at l p = record { low = mod-lt c (omega (arith, rows-low s w)); right = column-at l; plain = ap (isParity s) number-at ∙ p }
+pub data-at : (s : Shape) → WellFormed s → (c : ℕ) → c < cells s → isParity s c ≡ false → DataCell s (c % rows s) (c / rows s)
+data-at s w c l p = record { low = row-at s w c; right = column-at s w c l; plain = ap (isParity s) (number-at s w c) ∙ p }
 
 module _ (s : Shape) (w : WellFormed s) (i j : ℕ) (cell : DataCell s i j) where
   pos : 0 < s .p

@@ -5,9 +5,12 @@ pub mod Refused
 pub mod Residues
 pub mod Lines
 pub mod Ordered
-pub mod Parity
-pub mod Places
 pub mod Positions
+pub mod Places
+pub mod Geometry
+pub mod Parity
+pub mod Built
+pub mod Walked
 pub mod Units
 pub mod Held
 pub mod Depends

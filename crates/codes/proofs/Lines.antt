@@ -28,15 +28,17 @@ abbrev lineColumn : ℕ → Line → ℕ → ℕ
 lineColumn p l k = (l .column + l .step * k) % p
 
 -- a line that falls from row 0 on, and one along row r
-abbrev fallen : ℕ → ℕ → ℕ → ℕ → Line
-fallen parity count column step = record { parity = parity; count = count; row = 0; fall = 1; column = column; step = step }
+abbrev fallen : Equation → ℕ → ℕ → ℕ → Line
+fallen e count column step = record { level = e .row; parity = e .column; count = count; row = 0; fall = 1; column = column; step = step }
 
-abbrev flat : ℕ → ℕ → ℕ → ℕ → Line
-flat parity count r column = record { parity = parity; count = count; row = r; fall = 0; column = column; step = 1 }
+abbrev flat : Equation → ℕ → ℕ → ℕ → Line
+flat e count r column = record { level = e .row; parity = e .column; count = count; row = r; fall = 0; column = column; step = 1 }
 
 -- the line goes through the cells (i, j) that pass the test, once through each
 record Through (s : Shape) (e : Equation) (l : Line) : Type 0 where
-  parity : l .parity ≡ e .column * rows s + e .row
+  parity : cellNumber s (l .level) (l .parity) ≡ cellNumber s (e .row) (e .column)
+  level : l .level < rows s
+  right : l .parity < columns s
   few : l .count ≤ 30
   low′ : l .row + l .fall * l .count ≤ 62
   column : l .column < s .p
@@ -76,23 +78,27 @@ module _ (s : Shape) (w : WellFormed s) where
     }
 
     walks : Walks s q l
-    unfolding sumOver parityCell cellNumber
+    unfolding sumOver parityCell
     walks = record {
-      parity = h .parity ∙ ap (λ (x : Equation). x .column * rows s + x .row) (sym is);
-      lies = record { few = h .few; low = h .low′; column = h .column; step = h .step; inside = lists .below };
+      level = h .level;
+      right = h .right;
+      parity = h .parity ∙ ap (λ (x : Equation). cellNumber s (x .row) (x .column)) (sym is);
+      lies = record { few = h .few; low = h .low′; column = h .column; step = h .step; inside = λ k lk. (h .in-row k lk, in-column k) };
       summed = lists .passes;
       sum = xors-listed (cells s) (sumsCell s q) (l .count) (lineCell s l) lists;
     }
 
   -- ---- lines that fall: row k holds cell k
 
-  module _ (e : Equation) (parity count column step : ℕ) where
-    falling : parity ≡ e .column * rows s + e .row → count ≤ 30 → count ≤ rows s → column < s .p → step < s .p
+  module _ (e : Equation) (count column step : ℕ) where
+    falling : e .row < rows s → e .column < columns s → count ≤ 30 → count ≤ rows s → column < s .p → step < s .p
         → ((k : ℕ) → k < count → e .sums k ((column + step * k) % s .p) ≡ true)
         → ((i j : ℕ) → i < rows s → j < columns s → e .sums i j ≡ true → (i < count) × ((column + step * i) % s .p ≡ j))
-        → Through s e (fallen parity count column step)
-    falling par few short lc ls pass every = record {
-      parity = par;
+        → Through s e (fallen e count column step)
+    falling level right few short lc ls pass every = record {
+      parity = refl;
+      level = level;
+      right = right;
       few = few;
       low′ = omega arith;
       column = lc;
@@ -108,14 +114,16 @@ module _ (s : Shape) (w : WellFormed s) where
 
   -- ---- lines along a row
 
-  module _ (e : Equation) (parity count r column : ℕ) where
-    along : parity ≡ e .column * rows s + e .row → count ≤ 30 → r < rows s → r ≤ 31 → column < s .p
+  module _ (e : Equation) (count r column : ℕ) where
+    along : e .row < rows s → e .column < columns s → count ≤ 30 → r < rows s → r ≤ 31 → column < s .p
         → ((k : ℕ) → k < count → e .sums r ((column + 1 * k) % s .p) ≡ true)
         → ((i j : ℕ) → i < rows s → j < columns s → e .sums i j ≡ true → (k : ℕ) × (k < count) × (i ≡ r) × ((column + 1 * k) % s .p ≡ j))
         → ((j k : ℕ) → j < count → k < count → (column + 1 * j) % s .p ≡ (column + 1 * k) % s .p → j ≡ k)
-        → Through s e (flat parity count r column)
-    along par few lr hr lc pass every one = record {
-      parity = par;
+        → Through s e (flat e count r column)
+    along level right few lr hr lc pass every one = record {
+      parity = refl;
+      level = level;
+      right = right;
       few = few;
       low′ = omega arith;
       column = lc;
@@ -147,11 +155,11 @@ module _ (s : Shape) (w : WellFormed s) where
     pub rdp-diagonal-is : (q : ℕ) → s .p - 1 ≤ q → equation s q ≡ rdpDiagonal (s .p) (q - (s .p - 1))
     rdp-diagonal-is = second-of s (rdp (s .p)) (rdp-is s is-rdp)
 
-    pub rdp-row : (q : ℕ) → q < s .p - 1 → Walks s q (flat ((s .p - 1) * (s .p - 1) + q) (s .p - 1) q 0)
+    pub rdp-row : (q : ℕ) → q < s .p - 1 → Walks s q (flat (rdpRow (s .p) q) (s .p - 1) q 0)
     rdp-row q l =
         walks q (rdpRow (s .p) q) _ (rdp-row-is q l)
-        (along (rdpRow (s .p) q) ((s .p - 1) * (s .p - 1) + q) (s .p - 1) q 0
-        (ap (λ (n : ℕ). (s .p - 1) * n + q) rdp-rows) (omega (arith, high s w)) (omega (arith, rdp-rows)) (omega (arith, high s w)) (omega (arith, low s w))
+        (along (rdpRow (s .p) q) (s .p - 1) q 0
+        (omega (arith, rdp-rows)) (omega (arith, rdp-columns)) (omega (arith, high s w)) (omega (arith, rdp-rows)) (omega (arith, high s w)) (omega (arith, low s w))
         (λ k lk. and-both (eq-eqb q q refl) (lt-ltb ((0 + 1 * k) % s .p) (s .p - 1) (subst (λ (n : ℕ). n < s .p - 1) (sym (column-is k lk)) lk)))
         (λ i j li lj p.
         let lj′ : j < s .p - 1 = ltb-true j (s .p - 1) (and-right (eqb i q) (ltb j (s .p - 1)) p) in
@@ -172,11 +180,11 @@ module _ (s : Shape) (w : WellFormed s) where
         whole = omega (arith, steps-back (s .p) i (let pos : 0 < s .p = omega (arith, low s w) in pos))
 
     pub rdp-diagonal : (q : ℕ) → s .p - 1 ≤ q → q < equations s
-        → Walks s q (fallen (s .p * (s .p - 1) + (q - (s .p - 1))) (s .p - 1) (q - (s .p - 1)) (s .p - 1))
+        → Walks s q (fallen (rdpDiagonal (s .p) (q - (s .p - 1))) (s .p - 1) (q - (s .p - 1)) (s .p - 1))
     rdp-diagonal q lo hi =
         walks q (rdpDiagonal (s .p) d) _ (rdp-diagonal-is q lo)
-        (falling (rdpDiagonal (s .p) d) (s .p * (s .p - 1) + d) (s .p - 1) d (s .p - 1)
-        (ap (λ (n : ℕ). s .p * n + d) rdp-rows) (omega (arith, high s w)) (omega (arith, rdp-rows)) (omega (arith, d-small)) (omega (arith, low s w))
+        (falling (rdpDiagonal (s .p) d) (s .p - 1) d (s .p - 1)
+        (omega (arith, d-small, rdp-rows)) (omega (arith, rdp-columns)) (omega (arith, high s w)) (omega (arith, rdp-rows)) (omega (arith, d-small)) (omega (arith, low s w))
         (λ k lk.
         and-both (lt-ltb ((d + (s .p - 1) * k) % s .p) (s .p) (mod-lt (d + (s .p - 1) * k) pos))
         (and-both (lt-ltb k (s .p - 1) lk) (eq-eqb ((k + (d + (s .p - 1) * k) % s .p) % s .p) d (on k))))
@@ -286,11 +294,11 @@ module _ (s : Shape) (w : WellFormed s) where
           (λ e. absurd (n (sym (forth j lj) ∙ ap (λ (k : ℕ). (column + 1 * k) % s .p) (e ∙ sym last) ∙ forth (r + 1) (omega arith))))
           (λ e. let small = mod-lt (j + y) pos in omega arith)
 
-      hcode-row′ : equation s r ≡ hcodeRow (s .p) r → Walks s r (flat (s .p * (s .p - 1) + r) (s .p - 1) r column)
+      hcode-row′ : equation s r ≡ hcodeRow (s .p) r → Walks s r (flat (hcodeRow (s .p) r) (s .p - 1) r column)
       hcode-row′ is =
           walks r (hcodeRow (s .p) r) _ is
-          (along (hcodeRow (s .p) r) (s .p * (s .p - 1) + r) (s .p - 1) r column
-          (ap (λ (n : ℕ). s .p * n + r) hcode-rows) (omega (arith, high s w)) (omega (arith, hcode-rows)) (omega (arith, high s w)) column-small
+          (along (hcodeRow (s .p) r) (s .p - 1) r column
+          (omega (arith, hcode-rows)) (omega (arith, hcode-columns)) (omega (arith, high s w)) (omega (arith, hcode-rows)) (omega (arith, high s w)) column-small
           (λ k lk. and-both (eq-eqb r r refl) (and-both (lt-ltb ((column + 1 * k) % s .p) (s .p) (inside k)) (ap not (ne-eqb ((column + 1 * k) % s .p) (r + 1) (misses k lk)))))
           (λ i j li lj p.
           let rest = and-right (eqb i r) (ltb j (s .p) && not (eqb j (r + 1))) p in
@@ -299,12 +307,12 @@ module _ (s : Shape) (w : WellFormed s) where
           ((j + y) % s .p, ends j lj′ other, eqb-true i r (and-left (eqb i r) (ltb j (s .p) && not (eqb j (r + 1))) p), forth j lj′))
           (λ j k lj lk c. sym (back j (omega arith)) ∙ ap (λ (n : ℕ). (n + y) % s .p) c ∙ back k (omega arith)))
 
-      hcode-anti′ : (q : ℕ) → equation s q ≡ hcodeAntiDiagonal (s .p) r → Walks s q (fallen ((r + 1) * (s .p - 1) + r) (s .p - 1) column 1)
+      hcode-anti′ : (q : ℕ) → equation s q ≡ hcodeAntiDiagonal (s .p) r → Walks s q (fallen (hcodeAntiDiagonal (s .p) r) (s .p - 1) column 1)
       unfolding y
       hcode-anti′ q is =
           walks q (hcodeAntiDiagonal (s .p) r) _ is
-          (falling (hcodeAntiDiagonal (s .p) r) ((r + 1) * (s .p - 1) + r) (s .p - 1) column 1
-          (ap (λ (n : ℕ). (r + 1) * n + r) hcode-rows) (omega (arith, high s w)) (omega (arith, hcode-rows)) column-small (omega (arith, low s w))
+          (falling (hcodeAntiDiagonal (s .p) r) (s .p - 1) column 1
+          (omega (arith, hcode-rows)) (omega (arith, hcode-columns)) (omega (arith, high s w)) (omega (arith, hcode-rows)) column-small (omega (arith, low s w))
           (λ k lk.
           and-both (lt-ltb ((column + 1 * k) % s .p) (s .p) (inside k))
           (and-both (ap not (ne-eqb ((column + 1 * k) % s .p) (r + 1) (misses k lk)))
@@ -315,11 +323,11 @@ module _ (s : Shape) (w : WellFormed s) where
           (and-right (not (eqb j (r + 1))) (eqb i ((s .p - 2 - r + j) % s .p)) (and-right (ltb j (s .p)) (not (eqb j (r + 1)) && eqb i ((s .p - 2 - r + j) % s .p)) p)) in
           (omega (arith, hcode-rows), ap (λ (n : ℕ). (column + 1 * n) % s .p) (at ∙ ap (λ (n : ℕ). n % s .p) (add-comm (s .p - 2 - r) j)) ∙ forth j lj′)))
 
-    pub hcode-row : (q column : ℕ) → q < s .p - 1 → column ≡ (q + 2) % s .p → Walks s q (flat (s .p * (s .p - 1) + q) (s .p - 1) q column)
+    pub hcode-row : (q column : ℕ) → q < s .p - 1 → column ≡ (q + 2) % s .p → Walks s q (flat (hcodeRow (s .p) q) (s .p - 1) q column)
     hcode-row q column l starts = hcode-row′ q l column starts (hcode-row-is q l)
 
     pub hcode-anti : (q column : ℕ) → s .p - 1 ≤ q → q < equations s → column ≡ (q - (s .p - 1) + 2) % s .p
-        → Walks s q (fallen ((q - (s .p - 1) + 1) * (s .p - 1) + (q - (s .p - 1))) (s .p - 1) column 1)
+        → Walks s q (fallen (hcodeAntiDiagonal (s .p) (q - (s .p - 1))) (s .p - 1) column 1)
     hcode-anti q column lo hi starts = hcode-anti′ (q - (s .p - 1)) (omega (arith, hcode-n)) column starts q (hcode-anti-is q lo)
 
   -- ---- X-Code
@@ -341,12 +349,13 @@ module _ (s : Shape) (w : WellFormed s) where
     xcode-second-is = second-of s (xcode (s .p)) (xcode-is s is-xcode)
 
     -- a family of X-Code: in row k below p - 2 it sums the cell of one column
-    family : (q parity c row column step : ℕ) (at : ℕ → ℕ) → equation s q ≡ record { row = row; column = c; sums = λ k j. ltb k (s .p - 2) && eqb j (at k) }
-        → parity ≡ c * s .p + row → column < s .p → step < s .p → ((k : ℕ) → k < s .p - 2 → (column + step * k) % s .p ≡ at k) → Walks s q (fallen parity (s .p - 2) column step)
-    family q parity c row column step at is par lc ls goes =
+    family : (q c row column step : ℕ) (at : ℕ → ℕ) → equation s q ≡ record { row = row; column = c; sums = λ k j. ltb k (s .p - 2) && eqb j (at k) }
+        → row < s .p → c < s .p → column < s .p → step < s .p → ((k : ℕ) → k < s .p - 2 → (column + step * k) % s .p ≡ at k)
+        → Walks s q (fallen (record { row = row; column = c; sums = λ k j. ltb k (s .p - 2) && eqb j (at k) }) (s .p - 2) column step)
+    family q c row column step at is lr lc′ lc ls goes =
         walks q e _ is
-        (falling e parity (s .p - 2) column step
-        (par ∙ ap (λ (n : ℕ). c * n + row) (xcode-rows)) (omega (arith, high s w)) (omega (arith, xcode-rows)) lc ls
+        (falling e (s .p - 2) column step
+        (omega (arith, xcode-rows)) (omega (arith, xcode-columns)) (omega (arith, high s w)) (omega (arith, xcode-rows)) lc ls
         (λ k lk. and-both (lt-ltb k (s .p - 2) lk) (eq-eqb ((column + step * k) % s .p) (at k) (goes k lk)))
         (λ i j li lj p.
         let small : i < s .p - 2 = ltb-true i (s .p - 2) (and-left (ltb i (s .p - 2)) (eqb j (at i)) p) in
@@ -355,9 +364,9 @@ module _ (s : Shape) (w : WellFormed s) where
         e : Equation
         e = record { row = row; column = c; sums = λ k j. ltb k (s .p - 2) && eqb j (at k) }
 
-    pub xcode-first : (q column : ℕ) → q < s .p → column ≡ (q + 2) % s .p → Walks s q (fallen (q * s .p + (s .p - 2)) (s .p - 2) column 1)
+    pub xcode-first : (q column : ℕ) → q < s .p → column ≡ (q + 2) % s .p → Walks s q (fallen (xcodeFirst (s .p) q) (s .p - 2) column 1)
     xcode-first q column l starts =
-        family q (q * s .p + (s .p - 2)) q (s .p - 2) column 1 (λ k. (q + k + 2) % s .p) (xcode-first-is q l) refl
+        family q q (s .p - 2) column 1 (λ k. (q + k + 2) % s .p) (xcode-first-is q l) (omega arith) l
         (subst (λ (n : ℕ). n < s .p) (sym starts) (mod-lt (q + 2) (omega arith))) (omega (arith, low s w))
         (λ k lk. ap (λ (n : ℕ). (n + 1 * k) % s .p) starts ∙ mod-add-mod (q + 2) (s .p) (1 * k) ∙ ap (λ (n : ℕ). n % s .p) (same k))
       where
@@ -365,9 +374,9 @@ module _ (s : Shape) (w : WellFormed s) where
         same k = omega arith
 
     pub xcode-second : (q column : ℕ) → s .p ≤ q → q < equations s → column ≡ (q - s .p + (s .p - 2)) % s .p
-        → Walks s q (fallen ((q - s .p) * s .p + (s .p - 1)) (s .p - 2) column (s .p - 1))
+        → Walks s q (fallen (xcodeSecond (s .p) (q - s .p)) (s .p - 2) column (s .p - 1))
     xcode-second q column lo hi starts =
-        family q (c * s .p + (s .p - 1)) c (s .p - 1) column (s .p - 1) (λ k. (s .p + c - k - 2) % s .p) (xcode-second-is q lo) refl
+        family q c (s .p - 1) column (s .p - 1) (λ k. (s .p + c - k - 2) % s .p) (xcode-second-is q lo) (omega (arith, pos)) (omega (arith, xcode-n))
         (subst (λ (n : ℕ). n < s .p) (sym starts) (mod-lt (c + (s .p - 2)) pos)) (omega (arith, pos))
         (λ k lk. ap (λ (n : ℕ). (n + (s .p - 1) * k) % s .p) starts ∙ mod-add-mod (c + (s .p - 2)) (s .p) ((s .p - 1) * k)
         ∙ ap (λ (n : ℕ). n % s .p) (same k lk) ∙ turns (s .p) k (s .p + c - k - 2))

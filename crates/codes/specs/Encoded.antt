@@ -2,13 +2,14 @@
 use mathlib.Core.Path.{_≡_}
 use mathlib.Core.List.{List}
 use mathlib.Core.Bool.{Bool, cond, not}
-use Prim.Native.Nat.{ℕ, _+_, _*_, _/_, _%_, _<_}
+use Prim.Native.Nat.{ℕ, _+_, _/_, _%_, _<_}
 use lib.Dec.{eqb}
 use lib.ListN.{getD}
 use Rattle.xor.specs.Xor.{_⊕_, xors}
 use Rattle.xor.specs.Sets.{any, count}
 use Rattle.codes.specs.declared.Shape.{Shape}
 use Rattle.codes.specs.Shape.{rows, cells, equations, cellNumber}
+use Rattle.codes.specs.Geometry.{place}
 use Rattle.codes.specs.Equations.{equation}
 
 -- the number of the parity cell of equation q
@@ -21,7 +22,7 @@ sumsCell s q c = equation s q .sums (c % rows s) (c / rows s)
 
 -- byte t of cell c
 unfoldable pub byteAt : Shape → List ℕ → ℕ → ℕ → ℕ
-byteAt s stripe c t = getD stripe (c * s .cell + t) 0
+byteAt s stripe c t = getD stripe (place s c + t) 0
 
 -- the XOR of f c over the cells c that equation q sums
 unfoldable pub sumOver : Shape → ℕ → (ℕ → ℕ) → ℕ

@@ -1,5 +1,6 @@
 pub mod Equations
 pub mod Shape
+pub mod Geometry
 pub mod Encoded
 pub mod Refusals
 pub mod Lines

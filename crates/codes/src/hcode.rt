@@ -18,7 +18,8 @@ pub fn line(shape: Shape, q: usize) -> Line
     let n = p - 1;
     if q < n {
         return Line {
-            parity: p * n + q,
+            level: q,
+            parity: p,
             count: n,
             row: q,
             fall: 0,
@@ -28,7 +29,8 @@ pub fn line(shape: Shape, q: usize) -> Line
     }
     let r = q - n;
     Line {
-        parity: (r + 1) * n + r,
+        level: r,
+        parity: r + 1,
         count: n,
         row: 0,
         fall: 1,

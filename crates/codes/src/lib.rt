@@ -5,6 +5,7 @@ ghost use Prim.Native.Nat.{ℕ, _+_, _*_, _%_, _≤_, _<_};
 ghost use lib.ListN.{length, getD};
 ghost use Rattle.xor.specs.Runs.{Says};
 ghost use Rattle.codes.specs.Shape.{listed, rows, columns, cells, equations, cellNumber, stripeLength, WellFormed};
+ghost use Rattle.codes.specs.Geometry.{place};
 ghost use Rattle.codes.specs.Encoded.{parityCell, isParity};
 ghost use Rattle.codes.specs.Refusals.{refusal, codeFaults, sizeFaults, shapeFaults, stripeFaults, writeFaults, cellsFaults, columnsFaults};
 ghost use Rattle.codes.specs.Lines.{Lies, Walks, Placed, Found, Holding};
@@ -12,8 +13,15 @@ ghost use Rattle.codes.specs.Depends.{DataCell, DependOn};
 ghost use Rattle.codes.specs.Holders.{HeldBy, Named};
 
 mod hcode;
+mod layout;
 mod rdp;
 mod xcode;
+
+pub use layout::cell_of;
+pub use layout::cell_place;
+pub use layout::column_of;
+pub use layout::column_place;
+pub use layout::lies_at;
 
 // What describes a stripe: the code (1 RDP, 2 H-Code, 3 X-Code), the prime, and the bytes in a cell. Any numbers may stand here.
 #[repr(C)]
@@ -30,9 +38,10 @@ struct Extent {
     equations: usize,
 }
 
-// The cells of an equation: the number of its parity cell, and a line through the `count` cells whose XOR that is.
+// The cells of an equation: the row and the column of its parity cell, and a line through the `count` cells whose XOR that is.
 // The line starts in a row and a column; each next cell is `fall` rows down and `step` columns on, from column p - 1 back to 0.
 struct Line {
+    level: usize,
     parity: usize,
     count: usize,
     row: usize,
@@ -200,8 +209,6 @@ fn place_cells(shape: Shape, l: Line, places: &mut [usize; 32])
     ensures { λ _. ⌜ Placed shape l (now (places .exit)) ⌝ }
 {
     let p = shape.p;
-    let cell = shape.cell;
-    let n = row_count(shape);
     let count = l.count;
     let fall = l.fall;
     let step = l.step;
@@ -209,7 +216,7 @@ fn place_cells(shape: Shape, l: Line, places: &mut [usize; 32])
     let mut column = l.column;
     let mut k = 0;
     while k < count {
-        places[k] = (column * n + row) * cell;
+        places[k] = cell_place(shape, row, column);
         row += fall;
         column = turned(column, step, p);
         k += 1;
@@ -222,7 +229,7 @@ pub fn sources_of(shape: Shape, q: usize, places: &mut [usize; 32]) -> Sources
     ensures { λ r. ⌜ Found shape q r (now (places .exit)) ⌝ }
 {
     let l = line_of(shape, q);
-    let to = l.parity * shape.cell;
+    let to = cell_place(shape, l.level, l.parity);
     let count = l.count;
     place_cells(shape, l, places);
     Sources { to, count }
@@ -242,17 +249,10 @@ pub fn cells_of(shape: Shape, q: usize, places: &mut [usize; 32]) -> usize
 // Where in the stripe's bytes the parity cell of equation q starts.
 pub fn parity_place(shape: Shape, q: usize) -> usize
     requires { ⌜ WellFormed shape × (q < equations shape) ⌝ }
-    ensures { λ r. ⌜ r ≡ parityCell shape q * shape .cell ⌝ }
+    ensures { λ r. ⌜ r ≡ place shape (parityCell shape q) ⌝ }
 {
-    line_of(shape, q).parity * shape.cell
-}
-
-// Where in the stripe's bytes the cell in a row and a column starts.
-pub fn cell_place(shape: Shape, row: usize, column: usize) -> usize
-    requires { ⌜ WellFormed shape × (row < rows shape) × (column < columns shape) ⌝ }
-    ensures { λ r. ⌜ r ≡ cellNumber shape row column * shape .cell ⌝ }
-{
-    (column * row_count(shape) + row) * shape.cell
+    let l = line_of(shape, q);
+    cell_place(shape, l.level, l.parity)
 }
 
 // The refusal of a small write: the lowest number that applies, or 0.

@@ -18,7 +18,8 @@ pub fn line(shape: Shape, q: usize) -> Line
     let n = p - 1;
     if q < n {
         return Line {
-            parity: n * n + q,
+            level: q,
+            parity: n,
             count: n,
             row: q,
             fall: 0,
@@ -28,7 +29,8 @@ pub fn line(shape: Shape, q: usize) -> Line
     }
     let d = q - n;
     Line {
-        parity: p * n + d,
+        level: d,
+        parity: p,
         count: n,
         row: 0,
         fall: 1,

@@ -17,7 +17,8 @@ pub fn line(shape: Shape, q: usize) -> Line
     let p = shape.p;
     if q < p {
         return Line {
-            parity: q * p + (p - 2),
+            level: p - 2,
+            parity: q,
             count: p - 2,
             row: 0,
             fall: 1,
@@ -27,7 +28,8 @@ pub fn line(shape: Shape, q: usize) -> Line
     }
     let c = q - p;
     Line {
-        parity: c * p + (p - 1),
+        level: p - 1,
+        parity: c,
         count: p - 2,
         row: 0,
         fall: 1,

@@ -2,30 +2,27 @@
 use mathlib.Core.Path.{_≡_, refl, sym, ap, ap₂, _∙_, subst}
 use mathlib.Core.Logic.{_≢_}
 use mathlib.Core.List.{List}
-use mathlib.Core.Bool.{Bool, true, false, cond, not, _&&_, _||_, xor, and-true, or-false}
+use mathlib.Core.Bool.{Bool, true, false, _&&_, xor}
 use Prim.Native.Nat.{ℕ, zero, suc, _+_, _-_, _*_, _/_, _%_, _^_, _≤_, _<_}
 use native.Mathlib.Nat.{mod-lt, div-lt-iff-lt-mul, div-add-mod'}
 use native.Mathlib.Omega.{arith}
-use lib.Bits.{bitAnd, bitOr, bitXor}
 use lib.Dec.{eqb}
 use lib.ListN.{length, getD, set, length-set, replicate, getD-replicate, length-replicate, List·getD-eq-default}
 use lib.Seq.{getD-set-same, getD-set-other}
-use borrow.Author.Tests.{eq-eqb, ne-eqb, eqb-true, not-true}
-use Rattle.xor.specs.Xor.{_⊕_, xors}
+use borrow.Author.Tests.{eq-eqb, ne-eqb}
 use Rattle.xor.specs.Sets.{count}
-use Rattle.xor.proofs.Cases.{by-test, by-equal, by-less, clash, either, and-left, and-right, and-both, or-left, or-right}
-use Rattle.xor.proofs.Algebra.{zero-⊕, ⊕-zero, ⊕-comm, ⊕-assoc}
-use Rattle.xor.proofs.Sums.{xors-none, xors-more, xors-same, xors-zero, set-apart}
+use Rattle.xor.proofs.Cases.{by-equal, by-less, clash}
 use Rattle.xor.proofs.Sets.{count-none, count-in, count-out}
-use Rattle.bits.specs.Bit.{bit, IsLowest}
-use Rattle.bits.proofs.Bits.{bit-zero, bit-or, bit-xor, bit-power}
+use Rattle.bits.specs.Bit.{bit}
+use Rattle.bits.proofs.Bits.{bit-zero, bit-power}
 use Rattle.bits.proofs.Tests.{add-nothing}
-use Rattle.bits.proofs.Masks.{clear-lowest}
+use Rattle.solve.specs.Masked.{Added}
+use Rattle.solve.proofs.StateMasks.{bit-added}
 use Rattle.codes.specs.declared.Shape.{Shape}
-use Rattle.codes.specs.declared.Holders.{Holders}
 use Rattle.codes.specs.Shape.{rows, columns, cells, equations, cellNumber, WellFormed}
 use Rattle.codes.specs.Holders.{holds, HeldBy}
 use Rattle.codes.proofs.Shapes.{rows-low, small-equations}
+use Rattle.codes.proofs.Held.{held-is}
 use Rattle.decide.specs.Solver.{lostIn, Listed, Gathered, Rows}
 
 -- ---- what a list names
@@ -134,83 +131,31 @@ module _ (s : Shape) (map : List Bool) where
 
 -- ---- which equations hold which lost cell
 
--- b tells whether the bit is meant, f and g whether the mask is
-kept : (a b f : Bool) → b ≡ false → xor a (b && f) ≡ a
-unfolding xor
-kept true false f e = refl
-kept false false f e = refl
-kept a true f e = clash refl e
-
-new : (a b f : Bool) → a ≡ false → b ≡ true → xor a (b && f) ≡ f
+new : (a f b : Bool) → a ≡ false → b ≡ true → xor a (f && b) ≡ f
 unfolding xor
 new false true true e p = refl
-new false true false e p = refl
-new true b f e p = clash refl e
-new false false f e p = clash p refl
-
-twice : (a b f g : Bool) → (f ≡ true → g ≡ false) → xor (xor a (b && f)) (b && g) ≡ xor a (b && (f || g))
-unfolding xor
-twice true true true true h = clash refl (h refl)
-twice false true true true h = clash refl (h refl)
-twice true true true false h = refl
-twice true true false true h = refl
-twice true true false false h = refl
-twice false true true false h = refl
-twice false true false true h = refl
-twice false true false false h = refl
-twice true false f g h = refl
-twice false false f g h = refl
-
--- one bit changed in one mask
-toggled : (rows : List ℕ) (q k one x r j : ℕ) → q < length rows → one ≡ 2 ^ k → x ≡ bitXor (getD rows q 0) one
-    → bit j (getD (set rows q x) r 0) ≡ xor (bit j (getD rows r 0)) (eqb j k && eqb r q)
-toggled rows q k one x r j l power is = by-equal r q
-    (λ e. ap (λ (i : ℕ). bit j (getD (set rows q x) i 0)) e ∙ ap (bit j) (getD-set-same rows q x 0 l ∙ is) ∙ bit-xor j (getD rows q 0) one
-    ∙ ap₂ xor (ap (λ (i : ℕ). bit j (getD rows i 0)) (sym e)) (ap (bit j) power ∙ bit-power j k ∙ sym (and-true (eqb j k)) ∙ ap (_&&_ (eqb j k)) (sym (eq-eqb r q e))))
-    (λ e. ap (bit j) (getD-set-other rows q r x 0 e) ∙ sym (add-nothing (bit j (getD rows r 0)) (eqb j k) (eqb r q) (ne-eqb r q e)))
+new false false true e p = refl
+new true f b e p = clash refl e
+new false f false e p = clash p refl
 
 module _ (s : Shape) (list : List ℕ) where
   pub rows-none : (rows : List ℕ) → length rows ≡ 64 → ((q : ℕ) → getD rows q 0 ≡ 0) → Rows s 0 list rows
   rows-none rows long zero′ = record { long = long; bits = λ q l k lk. absurd (omega arith); none = λ q l k lk. ap (bit k) (zero′ q) ∙ bit-zero k }
 
-  module _ (k : ℕ) (rows : List ℕ) (h : Rows s k list rows) where
-    -- bit k is changed in the masks of the equations that hold lost cell number k
-    one-more : (after : List ℕ) → length after ≡ 64
-        → ((r : ℕ) → r < equations s → (j : ℕ) → bit j (getD after r 0) ≡ xor (bit j (getD rows r 0)) (eqb j k && holds s r (getD list k 0))) → Rows s (k + 1) list after
-    one-more after long change = record {
-      long = long;
-      bits = λ q l j lj. change q l j ∙ by-equal j k
-          (λ e. new (bit j (getD rows q 0)) (eqb j k) (holds s q (getD list k 0)) (h .none q l j (omega arith)) (eq-eqb j k e) ∙ ap (λ (i : ℕ). holds s q (getD list i 0)) (sym e))
-          (λ e. kept (bit j (getD rows q 0)) (eqb j k) (holds s q (getD list k 0)) (ne-eqb j k e) ∙ h .bits q l j (omega arith));
-      none = λ q l j lj. change q l j ∙ kept (bit j (getD rows q 0)) (eqb j k) (holds s q (getD list k 0)) (ne-eqb j k (λ e. omega arith)) ∙ h .none q l j (omega arith);
-    }
-
-    module _ (w : WellFormed s) (holders : Holders) (held : HeldBy s (getD list k 0) holders)
-        (one : ℕ) (power : one ≡ 2 ^ k) (x : ℕ) (isx : x ≡ bitXor (getD rows (holders .first) 0) one) where
-      abbrev once : List ℕ
-      once = set rows (holders .first) x
-
-      first-in : holders .first < length rows
-      first-in = omega (arith, held .there, small-equations s w, h .long)
-
-      -- there is one equation only
-      pub rows-one : equations s ≤ holders .second → Rows s (k + 1) list once
-      rows-one none′ = one-more once (length-set rows (holders .first) x ∙ h .long)
-          (λ r l j. toggled rows (holders .first) k one x r j first-in power isx
-          ∙ ap (λ (b : Bool). xor (bit j (getD rows r 0)) (eqb j k && b))
-          (sym (or-false (eqb r (holders .first))) ∙ ap (_||_ (eqb r (holders .first))) (sym (ne-eqb r (holders .second) (λ e. omega arith))) ∙ sym (held .held r l)))
-
-      -- there are two
-      pub rows-two : (y : ℕ) → holders .second < equations s → y ≡ bitXor (getD once (holders .second) 0) one → Rows s (k + 1) list (set once (holders .second) y)
-      rows-two y there isy = one-more (set once (holders .second) y) (length-set once (holders .second) y ∙ length-set rows (holders .first) x ∙ h .long)
-          (λ r l j. toggled once (holders .second) k one y r j (omega (arith, small-equations s w, length-set rows (holders .first) x, h .long)) power isy
-          ∙ ap (λ (b : Bool). xor b (eqb j k && eqb r (holders .second))) (toggled rows (holders .first) k one x r j first-in power isx)
-          ∙ twice (bit j (getD rows r 0)) (eqb j k) (eqb r (holders .first)) (eqb r (holders .second))
-          (λ p. ne-eqb r (holders .second) (λ e. held .apart (sym (eqb-true r (holders .first) p) ∙ e)))
-          ∙ ap (λ (b : Bool). xor (bit j (getD rows r 0)) (eqb j k && b)) (sym (held .held r l)))
-
-  pub rows-is : (k : ℕ) (rows rows′ : List ℕ) → rows′ ≡ rows → Rows s k list rows → Rows s k list rows′
-  rows-is k rows rows′ e h = subst (λ (l : List ℕ). Rows s k list l) (sym e) h
+  -- lost cell number k is added to the masks of the equations that hold it
+  pub rows-more : (k : ℕ) (rows : List ℕ) → WellFormed s → (m : ℕ) → HeldBy s (getD list k 0) m → (one : ℕ) → one ≡ 2 ^ k → (rows′ : List ℕ) → Added rows m one rows′ → Rows s k list rows → Rows s (k + 1) list rows′
+  rows-more k rows w m held one power rows′ added h = record {
+    long = added .long;
+    bits = λ q l j lj. change q l j ∙ by-equal j k
+        (λ e. new (bit j (getD rows q 0)) (holds s q (getD list k 0)) (eqb j k) (h .none q l j (omega arith)) (eq-eqb j k e) ∙ ap (λ (i : ℕ). holds s q (getD list i 0)) (sym e))
+        (λ e. add-nothing (bit j (getD rows q 0)) (holds s q (getD list k 0)) (eqb j k) (ne-eqb j k e) ∙ h .bits q l j (omega arith));
+    none = λ q l j lj. change q l j ∙ add-nothing (bit j (getD rows q 0)) (holds s q (getD list k 0)) (eqb j k) (ne-eqb j k (λ e. omega arith)) ∙ h .none q l j (omega arith);
+  }
+    where
+      change : (q : ℕ) → q < equations s → (j : ℕ) → bit j (getD rows′ q 0) ≡ xor (bit j (getD rows q 0)) (holds s q (getD list k 0) && eqb j k)
+      change q l j =
+          ap (bit j) (added .mask q (omega (arith, small-equations s w))) ∙ bit-added j q m (getD rows q 0) one
+          ∙ ap₂ (λ (a b : Bool). xor (bit j (getD rows q 0)) (a && b)) (held-is s (getD list k 0) m held q l) (ap (bit j) power ∙ bit-power j k)
 
   pub rows-all : (k u : ℕ) (rows : List ℕ) → k ≡ u → Rows s k list rows → Rows s u list rows
   rows-all k u rows e h = subst (λ (n : ℕ). Rows s n list rows) e h
@@ -228,9 +173,9 @@ module _ (s : Shape) (w : WellFormed s) (c n : ℕ) (inside : c < cells s) (is :
   unfolding cells
   column-in = div-lt-iff-lt-mul rows-some .1 (subst (λ (k : ℕ). c < columns s * k) (sym is) inside)
 
-  pub held-at : (h : Holders) → HeldBy s (cellNumber s (c % n) (c / n)) h → HeldBy s c h
+  pub held-at : (m : ℕ) → HeldBy s (cellNumber s (c % n) (c / n)) m → HeldBy s c m
   unfolding cellNumber
-  held-at h held = subst (λ (k : ℕ). HeldBy s k h) (ap (λ (k : ℕ). c / n * k + c % n) (sym is) ∙ div-add-mod' c n) held
+  held-at m held = subst (λ (k : ℕ). HeldBy s k m) (ap (λ (k : ℕ). c / n * k + c % n) (sym is) ∙ div-add-mod' c n) held
 
 -- ---- a new array
 

@@ -13,7 +13,7 @@ use Rattle.codes.specs.Shape.{cells, equations, stripeLength, WellFormed}
 use Rattle.codes.specs.Encoded.{parityCell, Solves, byteAt}
 use Rattle.codes.proofs.Ordered.{ordered}
 use Rattle.codes.proofs.Parity.{sum-same}
-use Rattle.stripe.proofs.Built.{built, built-long, built-at, built-byte}
+use Rattle.codes.proofs.Built.{built, built-long, built-at, built-byte}
 use Rattle.decide.specs.Survivors.{EncodedStripe, Undetermined}
 
 -- cells of any size

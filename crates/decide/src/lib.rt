@@ -82,18 +82,12 @@ fn hold_lost(
     ensures { λ _. ⌜ Rows shape lost (now (listed .entry)) (now (rows .exit)) ⌝ }
 {
     let height = codes::row_count(shape);
-    let n = codes::equation_count(shape);
     let mut k = 0;
     while k < lost {
         let c = listed[k];
-        let h = codes::holders_of(shape, c % height, c / height);
+        let holders = codes::holders_of(shape, c % height, c / height);
         let one = bits::one_bit(k);
-        let first = h.first;
-        let second = h.second;
-        rows[first] = rows[first] ^ one;
-        if second < n {
-            rows[second] = rows[second] ^ one;
-        }
+        solve::add_to(rows, holders, one);
         k += 1;
     }
 }

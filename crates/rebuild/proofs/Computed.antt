@@ -17,7 +17,7 @@ use Rattle.codes.specs.Shape.{cells, equations, WellFormed}
 use Rattle.codes.specs.Encoded.{byteAt}
 use Rattle.codes.specs.Holders.{holds}
 use Rattle.codes.proofs.Parity.{same-bytes}
-use Rattle.stripe.proofs.Built.{built, built-at}
+use Rattle.codes.proofs.Built.{built, built-at}
 use Rattle.decide.specs.Survivors.{Undetermined, Restores}
 use Rattle.equation.specs.Window.{bytesAt}
 use Rattle.decide.proofs.Stripes.{built-encoded}

@@ -1,5 +1,5 @@
 -- The loop over the lost cells: what the masks are at each, and one turn, on every problem with the first masks.
-use mathlib.Core.Path.{_≡_, refl, sym, ap, _∙_, subst}
+use mathlib.Core.Path.{_≡_, sym, ap, _∙_, subst}
 use mathlib.Core.Bool.{Bool, true, false, not, _&&_}
 use mathlib.Core.List.{List}
 use Prim.Native.Nat.{ℕ, suc, _+_, _-_, _^_, _≤_, _<_}
@@ -12,7 +12,7 @@ use Rattle.xor.proofs.Cases.{by-equal, by-less, and-left, and-right, not-passed
 use Rattle.bits.specs.Bit.{bit, IsLowest}
 use Rattle.elimination.specs.Method.{State, start, free, choose, passed, stopped, run}
 use Rattle.solve.specs.declared.Eliminated.the-variants.{Passed, Stopped}
-use Rattle.solve.specs.Masked.{Sources, startsAt, Holding, Spread, Own, Lists, Problem, outcome, Masked, Eliminates}
+use Rattle.solve.specs.Masked.{Sources, startsAt, Holding, Added, Own, Lists, Problem, outcome, Masked, Eliminates}
 use Rattle.elimination.proofs.Invariant.{chosen-here, chosen-before}
 use Rattle.elimination.proofs.Run.{Passed as PassedTo, Reached, run-reached}
 use Rattle.elimination.proofs.Steps.{run-starts, run-chooses, run-stops, run-skips, run-stays}
@@ -101,20 +101,20 @@ module _ (E u : ℕ) (first : List ℕ) (p : Problem E u first) where
 
     -- equation q is the lowest one
     stands-more : (rows′ sources′ : List ℕ) (q m : ℕ) → length chosen ≡ 64 → q < 64 → IsLowest 64 (startsAt rows unused k) q → Holding E rows k m
-        → Spread rows (bitXor m (2 ^ q)) q rows′ → Spread sources (bitXor m (2 ^ q)) q sources′
+        → Added rows (bitXor m (2 ^ q)) (getD rows q 0) rows′ → Added sources (bitXor m (2 ^ q)) (getD sources q 0) sources′
         → Stands E u first p rows′ sources′ (set chosen k q) (bitXor unused (2 ^ q)) (k + 1)
-    stands-more rows′ sources′ q m long lq lowest holding spreadRows spreadSources = record {
+    stands-more rows′ sources′ q m long lq lowest holding addedRows addedSources = record {
       s = s′;
       here = λ l. comes-to (p .n) (p .lost) u (p .cell) (p .lists) E (p .equation) s′ (k + 1) (suc c) after at l (let next = p .lists .rising k (k + 1) (omega arith) l in omega arith);
       end = λ l. comes-past (p .n) (p .lost) u (p .cell) (p .lists) E (p .equation) s′ (k + 1) (suc c) after at l (let inside = p .lists .inside k lk in omega arith);
-      row = λ r lr j lj. ap (bit j) (spreadRows .mask r (omega arith))
+      row = λ r lr j lj. ap (bit j) (addedRows .mask r (omega arith))
           ∙ bit-after E s c q m below held holds r lr j (getD rows r 0) (getD rows q 0) (s .row r (p .cell j)) (s .row q (p .cell j)) (h .row r lr j lj) (h .row q below j lj);
       masked = record {
         choice = λ j lj. by-equal j k
             (λ same. ap (λ (i : ℕ). getD (set chosen k q) i 0) same ∙ getD-set-same chosen k q 0 (omega arith) ∙ sym (chosen-here E s c q (p .cell j) (ap (p .cell) same)))
             (λ other. getD-set-other chosen k j q 0 other ∙ h .masked .choice j (omega arith)
             ∙ sym (chosen-before E s c q (p .cell j) (λ same. let low = p .lists .rising j k (omega arith) lk in omega arith)));
-        source = λ r lr. subst (Sources E s′ r) (sym (spreadSources .mask r (omega arith)))
+        source = λ r lr. subst (Sources E s′ r) (sym (addedSources .mask r (omega arith)))
             (sources-next E s c q m below held holds r lr (getD sources r 0) (getD sources q 0) (h .masked .source r lr) (h .masked .source q below));
         free = unused-next E s c q m below held holds unused (h .masked .free) (not-true (s .used q) (and-left (not (s .used q)) (s .row q c) isFree));
       };
@@ -164,19 +164,19 @@ module _ (E u : ℕ) (first : List ℕ) where
     stands = λ p. subst (λ (x : ℕ). Stands E u first p first sources chosen (x - 1) 0) (sym e) (stands-first E u first p sources chosen own);
   }
 
-  pub sofar-more : (rows sources chosen rows′ sources′ : List ℕ) (unused k q one m : ℕ) → E < 64 → u ≤ 64 → k < u → q < 64
+  pub sofar-more : (rows sources chosen rows′ sources′ : List ℕ) (unused unused′ k q one m : ℕ) → E < 64 → u ≤ 64 → k < u → q < 64
       → IsLowest 64 (startsAt rows unused k) q → one ≡ 2 ^ q → Holding E rows k m
-      → Spread rows (bitXor m one) q rows′ → Spread sources (bitXor m one) q sources′
-      → Sofar E u first rows sources chosen unused k → Sofar E u first rows′ sources′ (set chosen k q) (bitXor unused one) (k + 1)
-  sofar-more rows sources chosen rows′ sources′ unused k q one m few lu lk lq lowest e holding spreadRows spreadSources h = record {
+      → Added rows (bitXor m one) (getD rows q 0) rows′ → Added sources (bitXor m one) (getD sources q 0) sources′ → unused′ ≡ bitXor unused one
+      → Sofar E u first rows sources chosen unused k → Sofar E u first rows′ sources′ (set chosen k q) unused′ (k + 1)
+  sofar-more rows sources chosen rows′ sources′ unused unused′ k q one m few lu lk lq lowest e holding addedRows addedSources left h = record {
     low = omega arith;
-    longRows = spreadRows .long;
-    longSources = spreadSources .long;
+    longRows = addedRows .long;
+    longSources = addedSources .long;
     longChosen = length-set chosen k q ∙ h .longChosen;
-    stands = λ p. subst (λ (x : ℕ). Stands E u first p rows′ sources′ (set chosen k q) (bitXor unused x) (k + 1)) (sym e)
+    stands = λ p. subst (λ (x : ℕ). Stands E u first p rows′ sources′ (set chosen k q) x (k + 1)) (ap (bitXor unused) (sym e) ∙ sym left)
         (stands-more E u first p rows sources chosen unused k few lu lk (h .stands p) rows′ sources′ q m (h .longChosen) lq lowest holding
-        (subst (λ (x : ℕ). Spread rows (bitXor m x) q rows′) e spreadRows)
-        (subst (λ (x : ℕ). Spread sources (bitXor m x) q sources′) e spreadSources));
+        (subst (λ (x : ℕ). Added rows (bitXor m x) (getD rows q 0) rows′) e addedRows)
+        (subst (λ (x : ℕ). Added sources (bitXor m x) (getD sources q 0) sources′) e addedSources));
   }
 
   pub sofar-stops : (rows sources chosen : List ℕ) (unused k q : ℕ) → E < 64 → u ≤ 64 → k < u → q ≡ 64 → IsLowest 64 (startsAt rows unused k) q

@@ -12,7 +12,7 @@ use lib.Seq.{getD-set-same, getD-set-other}
 use borrow.Author.Tests.{eq-eqb, ne-eqb, lt-ltb, le-ltb}
 use Rattle.xor.proofs.Cases.{by-equal, by-less, and-left, and-both, clash}
 use Rattle.bits.specs.Bit.{bit, IsLowest}
-use Rattle.solve.specs.Masked.{firstCell, startsAt, Holding, addedWhere, Spread, Own}
+use Rattle.solve.specs.Masked.{firstCell, startsAt, Holding, addedWhere, Added, Own}
 use Rattle.bits.proofs.Bits.{bit-zero, bit-xor, bit-power}
 use Rattle.bits.proofs.Tests.{add-nothing}
 use Rattle.bits.proofs.Masks.{bit-clear, bit-set, clear-lowest}
@@ -100,25 +100,25 @@ module _ (rows : List ℕ) (k : ℕ) where
   pub holding-all : (m q n : ℕ) → q ≡ n → Holding q rows k m → Holding n rows k m
   holding-all m q n e h = subst (λ (i : ℕ). Holding i rows k m) e h
 
--- ---- the masks of the members of others: those in rest are still to come
+-- ---- the masks of the members: those in rest are still to come
 
-pub record SpreadTo (old : List ℕ) (others more : ℕ) (new : List ℕ) (rest : ℕ) : Type 0 where
+pub record AddedTo (old : List ℕ) (members more : ℕ) (new : List ℕ) (rest : ℕ) : Type 0 where
   pub long : length new ≡ 64
-  pub within : (r : ℕ) → bit r rest ≡ true → bit r others ≡ true
-  pub done : (r : ℕ) → r < 64 → bit r rest ≡ false → getD new r 0 ≡ addedWhere others r (getD old r 0) more
+  pub within : (r : ℕ) → bit r rest ≡ true → bit r members ≡ true
+  pub done : (r : ℕ) → r < 64 → bit r rest ≡ false → getD new r 0 ≡ addedWhere members r (getD old r 0) more
   pub kept : (r : ℕ) → bit r rest ≡ true → getD new r 0 ≡ getD old r 0
 
-module _ (old : List ℕ) (others more : ℕ) where
-  pub spread-none : length old ≡ 64 → SpreadTo old others more old others
-  spread-none long = record { long = long; within = λ r e. e; done = λ r l e. rw e refl; kept = λ r e. refl }
+module _ (old : List ℕ) (members more : ℕ) where
+  pub added-none : length old ≡ 64 → AddedTo old members more old members
+  added-none long = record { long = long; within = λ r e. e; done = λ r l e. rw e refl; kept = λ r e. refl }
 
-  pub spread-more : (new : List ℕ) (rest t : ℕ) → t < 64 → IsLowest 64 (λ k. bit k rest) t → SpreadTo old others more new rest
-      → SpreadTo old others more (set new t (bitXor (getD new t 0) more)) (bitAnd rest (rest - 1))
-  spread-more new rest t l found h = record {
+  pub added-more : (new : List ℕ) (rest t : ℕ) → t < 64 → IsLowest 64 (λ k. bit k rest) t → AddedTo old members more new rest
+      → AddedTo old members more (set new t (bitXor (getD new t 0) more)) (bitAnd rest (rest - 1))
+  added-more new rest t l found h = record {
     long = length-set new t x ∙ h .long;
     within = λ r e. h .within r (member rest t l found r e);
     done = λ r lr e. by-equal r t
-        (λ same. ap (λ (k : ℕ). getD (set new t x) k 0) same ∙ getD-set-same new t x 0 (omega (arith, h .long)) ∙ own ∙ ap (λ (k : ℕ). addedWhere others k (getD old k 0) more) (sym same))
+        (λ same. ap (λ (k : ℕ). getD (set new t x) k 0) same ∙ getD-set-same new t x 0 (omega (arith, h .long)) ∙ own ∙ ap (λ (k : ℕ). addedWhere members k (getD old k 0) more) (sym same))
         (λ other. getD-set-other new t r x 0 other ∙ h .done r lr (sym (stays rest t l found r other) ∙ e));
     kept = λ r e. getD-set-other new t r x 0 (λ same. clash e (gone rest t l found r same)) ∙ h .kept r (member rest t l found r e);
   }
@@ -126,14 +126,11 @@ module _ (old : List ℕ) (others more : ℕ) where
       x : ℕ
       x = bitXor (getD new t 0) more
 
-      own : x ≡ addedWhere others t (getD old t 0) more
+      own : x ≡ addedWhere members t (getD old t 0) more
       own = ap (λ (m : ℕ). bitXor m more) (h .kept t (found .passes l)) ∙ sym (ap (λ (b : Bool). cond b (bitXor (getD old t 0) more) (getD old t 0)) (h .within t (found .passes l)))
 
-  pub spread-all : (new : List ℕ) (rest q : ℕ) → rest ≡ 0 → more ≡ getD old q 0 → SpreadTo old others more new rest → Spread old others q new
-  spread-all new rest q e same h = record {
-    long = h .long;
-    mask = λ r l. h .done r l (ap (bit r) e ∙ bit-zero r) ∙ ap (addedWhere others r (getD old r 0)) same;
-  }
+  pub added-all : (new : List ℕ) (rest : ℕ) → rest ≡ 0 → AddedTo old members more new rest → Added old members more new
+  added-all new rest e h = record { long = h .long; mask = λ r l. h .done r l (ap (bit r) e ∙ bit-zero r) }
 
 -- ---- the first sources
 

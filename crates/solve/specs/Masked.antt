@@ -2,7 +2,7 @@
 -- equations that it is the sum of; and the unused equations.
 use mathlib.Core.Path.{_≡_}
 use mathlib.Core.List.{List}
-use mathlib.Core.Bool.{Bool, true, false, cond, not, _&&_}
+use mathlib.Core.Bool.{Bool, true, cond, not, _&&_}
 use Prim.Native.Nat.{ℕ, _^_, _<_}
 use lib.Bits.{bitXor}
 use lib.Dec.{eqb, ltb}
@@ -38,10 +38,10 @@ pub record Holding (E : ℕ) (rows : List ℕ) (k m : ℕ) : Type 0 where
 abbrev pub addedWhere : ℕ → ℕ → ℕ → ℕ → ℕ
 addedWhere test q m more = cond (bit q test) (bitXor m more) m
 
--- new is old with mask q added to the mask of each member of `others`
-pub record Spread (old : List ℕ) (others q : ℕ) (new : List ℕ) : Type 0 where
+-- new is old with `more` added to the mask of each member of a set
+pub record Added (old : List ℕ) (members more : ℕ) (new : List ℕ) : Type 0 where
   pub long : length new ≡ 64
-  pub mask : (r : ℕ) → r < 64 → getD new r 0 ≡ addedWhere others r (getD old r 0) (getD old q 0)
+  pub mask : (r : ℕ) → r < 64 → getD new r 0 ≡ addedWhere members r (getD old r 0) more
 
 -- each of the first E masks has its own number alone
 pub record Own (E : ℕ) (masks : List ℕ) : Type 0 where

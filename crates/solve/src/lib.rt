@@ -1,9 +1,9 @@
 // Elimination on at most 63 equations and 64 lost cells. Sets of either are the bits of a u64.
 ghost use mathlib.Core.Path.{_≡_};
 ghost use Prim.Native.Nat.{_≤_, _<_};
-ghost use lib.ListN.{length};
+ghost use lib.ListN.{length, getD};
 ghost use Rattle.bits.specs.Bit.{IsLowest};
-ghost use Rattle.solve.specs.Masked.{firstCell, startsAt, Holding, Spread, Own, Eliminates};
+ghost use Rattle.solve.specs.Masked.{firstCell, startsAt, Holding, Added, Own, Eliminates};
 
 // Room for the equations, and for the lost cells that they can determine.
 pub const ROOM: usize = 64;
@@ -54,18 +54,26 @@ fn holding(rows: &[u64; ROOM], equations: usize, k: usize) -> u64
     members
 }
 
-// Equation q is added to the others: what becomes of their masks, be they of lost cells or of original equations.
-fn spread(masks: &mut [u64; ROOM], others: u64, q: usize)
-    requires { ⌜ (length (now masks) ≡ 64) × (q < 64) ⌝ }
-    ensures { λ _. ⌜ Spread (now (masks .entry)) others q (now (masks .exit)) ⌝ }
+// Adds `more` to the mask of each member of a set.
+pub fn add_to(masks: &mut [u64; ROOM], members: u64, more: u64)
+    requires { ⌜ length (now masks) ≡ 64 ⌝ }
+    ensures { λ _. ⌜ Added (now (masks .entry)) members more (now (masks .exit)) ⌝ }
 {
-    let more = masks[q];
-    let mut rest = others;
+    let mut rest = members;
     while rest != 0 {
         let r = bits::lowest_bit(rest) as usize;
         masks[r] = masks[r] ^ more;
         rest = rest & (rest - 1);
     }
+}
+
+// Equation q is added to the others: what becomes of their masks, be they of lost cells or of original equations.
+fn spread(masks: &mut [u64; ROOM], others: u64, q: usize)
+    requires { ⌜ (length (now masks) ≡ 64) × (q < 64) ⌝ }
+    ensures { λ _. ⌜ Added (now (masks .entry)) others (getD (now (masks .entry)) q 0) (now (masks .exit)) ⌝ }
+{
+    let more = masks[q];
+    add_to(masks, others, more);
 }
 
 // At first every equation is the sum of itself alone.

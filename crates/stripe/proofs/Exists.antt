@@ -18,7 +18,7 @@ use Rattle.codes.proofs.Ordered.{ordered}
 use Rattle.codes.proofs.Parity.{sum-same, sum-byte}
 use Rattle.stripe.specs.Encode.{EncodingOf}
 use Rattle.stripe.specs.Write.{Written, Alone}
-use Rattle.stripe.proofs.Built.{built, built-long, built-at, built-byte}
+use Rattle.codes.proofs.Built.{built, built-long, built-at, built-byte}
 use Rattle.stripe.proofs.Encoding.{settled, holds, stays, one-encoding}
 use Rattle.stripe.proofs.Writing.{written-by}
 

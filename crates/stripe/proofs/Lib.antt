@@ -1,6 +1,5 @@
 -- The laws behind the calls on a stripe, and the theorems about their contracts.
 pub mod Encoding
-pub mod Built
 pub mod Writing
 pub mod Exists
 pub mod OneAnswer

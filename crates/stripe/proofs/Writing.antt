@@ -30,7 +30,7 @@ use Rattle.codes.proofs.Places.{cells-apart, cell-ends}
 use Rattle.codes.proofs.Units.{not-parity, unit-own, unit-parity, unit-data, unit-scaled}
 use Rattle.stripe.specs.Parts.{differs, Spread, FromCell}
 use Rattle.stripe.specs.Write.{Written, Depending}
-use Rattle.stripe.proofs.Built.{built, built-long, built-at}
+use Rattle.codes.proofs.Built.{built, built-long, built-at}
 
 -- ---- where the runs are
 

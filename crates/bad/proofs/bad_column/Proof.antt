@@ -1,11 +1,11 @@
--- `rebuild::bad_column` meets its contract. A stripe that is not refused is well formed and of the right length.
+-- `bad::bad_column` meets its contract. A stripe that is not refused is well formed and of the right length.
 use mathlib.Core.Path.{refl, sym, _∙_}
 use Rattle.codes.proofs.Refused.{accepted}
-use Rattle.rebuild.proofs.Rebuilding.{clean-zero}
-use Rattle.rebuild.proofs.Naming.{first-below, finding-so}
+use Rattle.bad.proofs.Rebuilding.{clean-zero}
+use Rattle.bad.proofs.Naming.{first-below, finding-so}
 use borrow.Author.Needs.{needs}
-use Rattle.rebuild.proofs.bad_column.Statement.{statement}
-use Rattle.rebuild.proofs.bad_column.Tie as tie
+use Rattle.bad.proofs.bad_column.Statement.{statement}
+use Rattle.bad.proofs.bad_column.Tie as tie
 
 stripe-refusal-requires : tie.Need-stripe-refusal-requires
 stripe-refusal-requires c κs = search needs

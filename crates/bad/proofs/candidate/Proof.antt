@@ -1,4 +1,4 @@
--- `rebuild::candidate` meets its contract. The outer loop's invariant: no column below c explains values with these totals.
+-- `bad::candidate` meets its contract. The outer loop's invariant: no column below c explains values with these totals.
 -- The inner loop's: nothing is left in the first q equations, and c is still the column of this turn.
 use mathlib.Core.Path.{_≡_, refl, _∙_}
 use Prim.Native.Nat.{_-_, _≤_, _<_}
@@ -7,10 +7,10 @@ use lib.ListN.{getD}
 use Rattle.xor.proofs.Runs.{Zero, zero-next}
 use Rattle.codes.specs.Shape.{columns}
 use Rattle.codes.proofs.Shapes.{columns-high, small-equations}
-use Rattle.rebuild.proofs.Explained.{NoneBelow, none-more, candidate-here, candidate-none}
+use Rattle.bad.proofs.Explained.{NoneBelow, none-more, candidate-here, candidate-none}
 use borrow.Author.Needs.{needs}
-use Rattle.rebuild.proofs.candidate.Statement.{statement}
-use Rattle.rebuild.proofs.candidate.Tie as tie
+use Rattle.bad.proofs.candidate.Statement.{statement}
+use Rattle.bad.proofs.candidate.Tie as tie
 
 abbrev Inv-loop : tie.InvT-loop
 Inv-loop shape totals wide count c₀ rest q₀ c q = Zero (λ k. getD rest k 0) q × (q ≤ count) × (c ≡ c₀)

@@ -1,13 +1,13 @@
--- `rebuild::column_agrees` meets its contract. One column is never undetermined, and the checks tell whether it can be replaced.
+-- `bad::column_agrees` meets its contract. One column is never undetermined, and the checks tell whether it can be replaced.
 use mathlib.Core.Path.{refl}
 use Prim.Native.Nat.{ℕ}
 use lib.ListN.{length-replicate}
 use Rattle.decide.proofs.Solving.{is-solved, is-open}
-use Rattle.rebuild.proofs.Naming.{column-determined, column-says}
+use Rattle.bad.proofs.Naming.{column-determined, column-says}
 use native.Mathlib.Omega.{arith}
 use borrow.Author.Needs.{needs}
-use Rattle.rebuild.proofs.column_agrees.Statement.{statement}
-use Rattle.rebuild.proofs.column_agrees.Tie as tie
+use Rattle.bad.proofs.column_agrees.Statement.{statement}
+use Rattle.bad.proofs.column_agrees.Tie as tie
 
 mark-columns-requires : tie.Need-mark-columns-requires
 mark-columns-requires c κs = (c .before .pre .0, c .before .pre .2, omega (arith, c .before .pre .2))

@@ -1,9 +1,9 @@
--- `rebuild::name_column` meets its contract. The candidate is the only column that can explain the byte.
+-- `bad::name_column` meets its contract. The candidate is the only column that can explain the byte.
 use mathlib.Core.Path.{sym, _∙_}
-use Rattle.rebuild.proofs.Naming.{named-column, none-named, not-this}
+use Rattle.bad.proofs.Naming.{named-column, none-named, not-this}
 use native.Mathlib.Omega.{arith}
-use Rattle.rebuild.proofs.name_column.Statement.{statement}
-use Rattle.rebuild.proofs.name_column.Tie as tie
+use Rattle.bad.proofs.name_column.Statement.{statement}
+use Rattle.bad.proofs.name_column.Tie as tie
 
 failing-byte-requires : tie.Need-failing-byte-requires
 failing-byte-requires c κs = c .before .pre

@@ -1,15 +1,15 @@
--- `rebuild::totals_at` meets its contract. The loop's invariant: the first q entries are the totals of the first q equations.
+-- `bad::totals_at` meets its contract. The loop's invariant: the first q entries are the totals of the first q equations.
 use mathlib.Core.Path.{_≡_}
 use Prim.Native.Nat.{ℕ, _-_, _≤_, _<_}
 use native.Mathlib.Omega.{arith}
 use lib.ListN.{length, getD}
 use Rattle.codes.specs.Encoded.{total}
 use Rattle.codes.proofs.Shapes.{small-equations}
-use Rattle.rebuild.specs.Lanes.{bytesAt}
-use Rattle.rebuild.proofs.Rests.{filled-more}
+use Rattle.equation.specs.Window.{bytesAt}
+use Rattle.bad.proofs.Rests.{filled-more}
 use borrow.Author.Needs.{needs}
-use Rattle.rebuild.proofs.totals_at.Statement.{statement}
-use Rattle.rebuild.proofs.totals_at.Tie as tie
+use Rattle.bad.proofs.totals_at.Statement.{statement}
+use Rattle.bad.proofs.totals_at.Tie as tie
 
 abbrev Inv-loop : tie.InvT-loop
 Inv-loop shape stripe t n totals₀ q₀ totals q =

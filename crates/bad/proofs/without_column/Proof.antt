@@ -1,4 +1,4 @@
--- `rebuild::without_column` meets its contract. The loop's invariant: `rest` is what is left once the cells of the first i rows have taken in their values.
+-- `bad::without_column` meets its contract. The loop's invariant: `rest` is what is left once the cells of the first i rows have taken in their values.
 use mathlib.Core.Path.{_≡_, refl, _∙_}
 use mathlib.Core.Logic.{⊎-elim}
 use Prim.Native.Nat.{_-_, _≤_, _<_}
@@ -7,11 +7,11 @@ use lib.Bits.{bitXor}
 use lib.ListN.{length, getD, set}
 use Rattle.codes.specs.Shape.{equations}
 use Rattle.codes.proofs.Shapes.{small-equations}
-use Rattle.rebuild.specs.Candidate.{Without}
-use Rattle.rebuild.proofs.Rests.{Xored, xored-in, xored-out, without-none, without-more, without-all}
+use Rattle.bad.specs.Candidate.{Without}
+use Rattle.bad.proofs.Rests.{Xored, xored-in, xored-out, without-none, without-more, without-all}
 use borrow.Author.Needs.{needs}
-use Rattle.rebuild.proofs.without_column.Statement.{statement}
-use Rattle.rebuild.proofs.without_column.Tie as tie
+use Rattle.bad.proofs.without_column.Statement.{statement}
+use Rattle.bad.proofs.without_column.Tie as tie
 
 abbrev Inv-loop : tie.InvT-loop
 Inv-loop shape column totals count rows rest₀ i₀ rest i = (i ≤ rows) × (length rest ≡ 64) × Without shape totals column i rest

@@ -1,5 +1,5 @@
 -- `codes::cells_of` meets its contract. The parity cell's place stands behind those of the cells that it is the XOR of.
-use Rattle.codes.proofs.Places.{holding}
+use Rattle.codes.proofs.Walked.{holding}
 use borrow.Author.Needs.{needs}
 use Rattle.codes.proofs.cells_of.Statement.{statement}
 use Rattle.codes.proofs.cells_of.Tie as tie

@@ -1,5 +1,6 @@
 -- `solve::eliminate` meets its contract. The loop's invariant: on every problem with the first masks the run has come to lost cell number k,
 -- and the masks are those of its state.
+use mathlib.Core.Path.{refl}
 use Prim.Native.Nat.{_-_}
 use native.Mathlib.Omega.{arith}
 use lib.Pow.{pow-pos}
@@ -71,8 +72,8 @@ loop-again c =
     let chose = c .before .before .before .before .before .before in
     let entry = chose .before .before .before .before .before .before .before .before .before in
     let found = chose .before .before .find-equation .ensures in
-    sofar-more _ _ _ _ _ _ _ _ _ _ _ _ _ (entry .pre .4) (entry .pre .3) (omega arith) (let most = found .most in omega arith) found (chose .one-bit2 .ensures)
-    (c .before .before .before .before .holding .ensures) (c .before .before .spread .ensures) (c .spread2 .ensures) (chose .before .before .before .before .before .loop .inv)
+    sofar-more _ _ _ _ _ _ _ _ _ _ _ _ _ _ (entry .pre .4) (entry .pre .3) (omega arith) (let most = found .most in omega arith) found (chose .one-bit2 .ensures)
+    (c .before .before .before .before .holding .ensures) (c .before .before .spread .ensures) (c .spread2 .ensures) refl (chose .before .before .before .before .before .loop .inv)
 
 returns-2 : tie.Need-returns-2 Inv-loop μ-loop
 returns-2 c = sofar-all _ _ _ _ _ _ _ _ (let low = c .before .loop .inv .low in omega arith) (c .before .loop .inv)

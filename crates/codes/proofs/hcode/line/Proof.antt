@@ -1,7 +1,6 @@
 -- `codes::hcode::line` meets its contract. Each line goes once through the cells that its equation sums.
-use Prim.Native.Nat.{_+_, _-_}
 use native.Mathlib.Omega.{arith}
-use Rattle.codes.proofs.Shapes.{low, high, equations-other, small-product}
+use Rattle.codes.proofs.Shapes.{low, high, equations-other}
 use Rattle.codes.proofs.Lines.{hcode-row, hcode-anti}
 use Rattle.codes.proofs.hcode.line.Statement.{statement}
 use Rattle.codes.proofs.hcode.line.Tie as tie
@@ -9,26 +8,14 @@ use Rattle.codes.proofs.hcode.line.Tie as tie
 sub-n : tie.Need-sub-n
 sub-n c = omega (arith, low (c .args .shape) (c .pre .0))
 
-mul-t7 : tie.Need-mul-t7
-mul-t7 c = omega (arith, small-product (c .before .args .shape .p) (c .before .args .shape .p - 1) (omega (arith, high (c .before .args .shape) (c .before .pre .0))) (omega (arith, high (c .before .args .shape) (c .before .pre .0))))
-
-add-t8 : tie.Need-add-t8
-add-t8 c = omega (arith, high (c .before .args .shape) (c .before .pre .0), small-product (c .before .args .shape .p) (c .before .args .shape .p - 1) (omega (arith, high (c .before .args .shape) (c .before .pre .0))) (omega (arith, high (c .before .args .shape) (c .before .pre .0))))
-
 turned-requires : tie.Need-turned-requires
 turned-requires c κs = (omega arith, omega (arith, low (c .before .args .shape) (c .before .pre .0)), omega (arith, high (c .before .args .shape) (c .before .pre .0)))
 
 returns : tie.Need-returns
 returns c = hcode-row (c .before .before .args .shape) (c .before .before .pre .0) (c .before .before .pre .1) _ _ (c .before .if1 .taken) (c .turned .ensures)
 
-add-t10 : tie.Need-add-t10
-add-t10 c = omega (arith, high (c .before .args .shape) (c .before .pre .0), equations-other (c .before .args .shape) (c .before .pre .0) (λ e. omega arith))
-
-mul-t11 : tie.Need-mul-t11
-mul-t11 c = omega (arith, small-product ((c .before .args .q - (c .before .args .shape .p - 1) + 1)) (c .before .args .shape .p - 1) (omega (arith, high (c .before .args .shape) (c .before .pre .0), equations-other (c .before .args .shape) (c .before .pre .0) (λ e. omega arith))) (omega (arith, high (c .before .args .shape) (c .before .pre .0), equations-other (c .before .args .shape) (c .before .pre .0) (λ e. omega arith))))
-
-add-t12 : tie.Need-add-t12
-add-t12 c = omega (arith, high (c .before .args .shape) (c .before .pre .0), equations-other (c .before .args .shape) (c .before .pre .0) (λ e. omega arith), small-product ((c .before .args .q - (c .before .args .shape .p - 1) + 1)) (c .before .args .shape .p - 1) (omega (arith, high (c .before .args .shape) (c .before .pre .0), equations-other (c .before .args .shape) (c .before .pre .0) (λ e. omega arith))) (omega (arith, high (c .before .args .shape) (c .before .pre .0), equations-other (c .before .args .shape) (c .before .pre .0) (λ e. omega arith))))
+add-t8 : tie.Need-add-t8
+add-t8 c = omega (arith, high (c .before .args .shape) (c .before .pre .0), equations-other (c .before .args .shape) (c .before .pre .0) (λ e. omega arith))
 
 turned-requires-2 : tie.Need-turned-requires-2
 turned-requires-2 c κs = (omega (arith, equations-other (c .before .args .shape) (c .before .pre .0) (λ e. omega arith)), omega (arith, low (c .before .args .shape) (c .before .pre .0)), omega (arith, high (c .before .args .shape) (c .before .pre .0)))
@@ -37,16 +24,4 @@ returns-2 : tie.Need-returns-2
 returns-2 c = hcode-anti (c .before .before .args .shape) (c .before .before .pre .0) (c .before .before .pre .1) _ _ (c .before .if1 .left) (c .before .before .pre .2) (c .turned2 .ensures)
 
 pub line-spec : {M : Type 1} → statement M
-line-spec =
-    tie.close
-    (tie.spec
-    sub-n
-    mul-t7
-    add-t8
-    turned-requires
-    returns
-    add-t10
-    mul-t11
-    add-t12
-    turned-requires-2
-    returns-2)
+line-spec = tie.close (tie.spec sub-n turned-requires returns add-t8 turned-requires-2 returns-2)

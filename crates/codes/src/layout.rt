@@ -1,0 +1,47 @@
+// Where the cells of a stripe lie in the lent buffer. What stands behind these functions is all that knows how columns lie.
+use crate::Shape;
+ghost use mathlib.Core.Path.{_≡_};
+ghost use Prim.Native.Nat.{_<_};
+ghost use Rattle.codes.specs.Shape.{rows, columns, cells, cellNumber, WellFormed};
+ghost use Rattle.codes.specs.Geometry.{columnOf, liesAt, cellOf, place};
+
+// The column, as the equations number it, that lies at place d.
+pub fn column_of(shape: Shape, d: usize) -> usize
+    requires { ⌜ WellFormed shape × (d < columns shape) ⌝ }
+    ensures { λ r. ⌜ r ≡ columnOf shape d ⌝ }
+{
+    d
+}
+
+// Where column j, as the equations number it, lies.
+pub fn lies_at(shape: Shape, j: usize) -> usize
+    requires { ⌜ WellFormed shape × (j < columns shape) ⌝ }
+    ensures { λ r. ⌜ r ≡ liesAt shape j ⌝ }
+{
+    j
+}
+
+// The equations' number of the cell that a caller calls c.
+pub fn cell_of(shape: Shape, c: usize) -> usize
+    requires { ⌜ WellFormed shape × (c < cells shape) ⌝ }
+    ensures { λ r. ⌜ r ≡ cellOf shape c ⌝ }
+{
+    let n = crate::row_count(shape);
+    column_of(shape, c / n) * n + c % n
+}
+
+// Where column j starts in the stripe's bytes.
+pub fn column_place(shape: Shape, j: usize) -> usize
+    requires { ⌜ WellFormed shape × (j < columns shape) ⌝ }
+    ensures { λ r. ⌜ r ≡ place shape (cellNumber shape 0 j) ⌝ }
+{
+    lies_at(shape, j) * (crate::row_count(shape) * shape.cell)
+}
+
+// Where the cell in a row and a column starts in the stripe's bytes.
+pub fn cell_place(shape: Shape, row: usize, column: usize) -> usize
+    requires { ⌜ WellFormed shape × (row < rows shape) × (column < columns shape) ⌝ }
+    ensures { λ r. ⌜ r ≡ place shape (cellNumber shape row column) ⌝ }
+{
+    column_place(shape, column) + row * shape.cell
+}
