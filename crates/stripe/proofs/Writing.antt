@@ -4,7 +4,7 @@ use mathlib.Core.Path.{_≡_, refl, sym, ap, ap₂, _∙_, subst}
 use mathlib.Core.Logic.{_≢_, inl, inr, ⊎-elim}
 use mathlib.Core.List.{List}
 use mathlib.Core.Bool.{Bool, true, false, cond, not, _&&_, and-true}
-use Prim.Native.Nat.{ℕ, _+_, _-_, _*_, _≤_, _<_}
+use Prim.Native.Nat.{ℕ, _+_, _-_, _≤_, _<_}
 use native.Mathlib.Omega.{arith}
 use lib.Bits.{bitAnd}
 use lib.Dec.{eqb}
@@ -21,12 +21,13 @@ use Rattle.bits.proofs.Bits.{bit-zero}
 use Rattle.bits.proofs.Masks.{clear-lowest}
 use Rattle.codes.specs.declared.Shape.{Shape}
 use Rattle.codes.specs.Shape.{cells, equations, cellNumber, WellFormed}
+use Rattle.codes.specs.Geometry.{place}
 use Rattle.codes.specs.Encoded.{parityCell, byteAt, isParity, Solves}
 use Rattle.codes.specs.Depends.{unitOf, DependOn, WriteRight}
 use Rattle.codes.proofs.Ordered.{ordered}
 use Rattle.codes.proofs.Parity.{sum-same}
 use Rattle.codes.proofs.Positions.{cell-inside}
-use Rattle.codes.proofs.Places.{cells-apart, cell-ends}
+use Rattle.codes.proofs.Geometry.{place-inside, place-apart}
 use Rattle.codes.proofs.Units.{not-parity, unit-own, unit-parity, unit-data, unit-scaled}
 use Rattle.stripe.specs.Parts.{differs, Spread, FromCell}
 use Rattle.stripe.specs.Write.{Written, Depending}
@@ -35,7 +36,7 @@ use Rattle.codes.proofs.Built.{built, built-long, built-at}
 -- ---- where the runs are
 
 -- the data cell of a small write that is right
-pub write-from : (s : Shape) (n row column m from : ℕ) (stripe bytes : List ℕ) → WriteRight s n row column m → from ≡ cellNumber s row column * s .cell
+pub write-from : (s : Shape) (n row column m from : ℕ) (stripe bytes : List ℕ) → WriteRight s n row column m → from ≡ place s (cellNumber s row column)
     → length stripe ≡ n → length bytes ≡ m → FromCell s stripe from bytes
 write-from s n row column m from stripe bytes h at ls lb = record {
   formed = h .formed;
@@ -50,24 +51,24 @@ write-from s n row column m from stripe bytes h at ls lb = record {
 module _ (s : Shape) (from : ℕ) (stripe bytes : List ℕ) (h : FromCell s stripe from bytes) where
   -- its run is inside a stripe as long
   pub from-fits : (mid : List ℕ) → length mid ≡ length stripe → from + length bytes ≤ length mid
-  from-fits mid same = omega (arith, same, h .at, h .whole, h .long, cell-ends s (h .formed) (h .cell) (h .inside))
+  from-fits mid same = omega (arith, same, h .at, h .whole, h .long, place-inside s (h .formed) (h .cell) (h .inside))
 
   -- and beside that of a parity cell
-  pub part-fits : (mid : List ℕ) → length mid ≡ length stripe → (q to : ℕ) → to ≡ parityCell s q * s .cell → q < equations s
+  pub part-fits : (mid : List ℕ) → length mid ≡ length stripe → (q to : ℕ) → to ≡ place s (parityCell s q) → q < equations s
       → (to + length bytes ≤ length mid) × (from + length bytes ≤ length mid) × Beside to from (length bytes)
   part-fits mid same q to e l = (
-    omega (arith, same, e, h .whole, h .long, cell-ends s (h .formed) (parityCell s q) (ordered s (h .formed) .inside q l)),
+    omega (arith, same, e, h .whole, h .long, place-inside s (h .formed) (parityCell s q) (ordered s (h .formed) .inside q l)),
     from-fits mid same,
     subst (λ (n : ℕ). Beside to from n) (sym (h .whole))
-        (⊎-elim (λ side. inl (omega (arith, e, h .at))) (λ side. inr (omega (arith, e, h .at))) (cells-apart s (h .formed) (h .cell) (parityCell s q) (not-parity s (h .cell) q (h .plain) l))),
+        (⊎-elim (λ side. inl (omega (arith, e, h .at))) (λ side. inr (omega (arith, e, h .at))) (place-apart s (h .formed) (h .cell) (parityCell s q) (h .inside) (ordered s (h .formed) .inside q l) (not-parity s (h .cell) q (h .plain) l))),
   )
 
 -- a run that is put into a cell leaves the other cells
-beside : (s : Shape) (w : WellFormed s) (c to n : ℕ) (f : ℕ → ℕ) (old new : List ℕ) → to ≡ c * s .cell → n ≡ s .cell → Put old to n f new
-    → (k : ℕ) → k ≢ c → (t : ℕ) → t < s .cell → byteAt s new k t ≡ byteAt s old k t
+beside : (s : Shape) (w : WellFormed s) (c to n : ℕ) (f : ℕ → ℕ) (old new : List ℕ) → c < cells s → to ≡ place s c → n ≡ s .cell → Put old to n f new
+    → (k : ℕ) → k < cells s → k ≢ c → (t : ℕ) → t < s .cell → byteAt s new k t ≡ byteAt s old k t
 unfolding byteAt
-beside s w c to n f old new at whole put k other t lt =
-    put .outer (k * s .cell + t) (⊎-elim (λ side. inl (omega (arith, at))) (λ side. inr (omega (arith, at, whole))) (cells-apart s w k c other))
+beside s w c to n f old new inside at whole put k lk other t lt =
+    put .outer (place s k + t) (⊎-elim (λ side. inl (omega (arith, at))) (λ side. inr (omega (arith, at, whole))) (place-apart s w k c lk inside other))
 
 -- ---- the loop over the set m: the parity cells of its equations that are not in rest are done
 
@@ -90,7 +91,7 @@ module _ (s : Shape) (m from : ℕ) (bytes old : List ℕ) (h : FromCell s old f
       never false = refl
 
   -- the lowest equation q that is still to come
-  module _ (rest q to : ℕ) (mid new : List ℕ) (lq : q < 64) (lowest : IsLowest 64 (λ k. bit k rest) q) (l : q < equations s) (at : to ≡ parityCell s q * s .cell) (turn : SpreadTo s m rest d old mid)
+  module _ (rest q to : ℕ) (mid new : List ℕ) (lq : q < 64) (lowest : IsLowest 64 (λ k. bit k rest) q) (l : q < equations s) (at : to ≡ place s (parityCell s q)) (turn : SpreadTo s m rest d old mid)
       (put : Put mid to (length bytes) (changedBy mid to from bytes) new) where
     left : (r : ℕ) → bit r (bitAnd rest (rest - 1)) ≡ (bit r rest && not (eqb r q))
     left = clear-lowest 64 rest q lowest lq
@@ -105,21 +106,21 @@ module _ (s : Shape) (m from : ℕ) (bytes old : List ℕ) (h : FromCell s old f
         ap (λ (i : ℕ). getD new (i + t) 0) (sym at)
         ∙ put .inner t (omega (arith, h .whole))
         ∙ ap₂ (λ (x y : ℕ). x ⊕ (y ⊕ getD bytes t 0))
-        (ap (λ (i : ℕ). getD mid (i + t) 0) at ∙ turn .so .added q l t lt ∙ ap₂ (λ (a b : Bool). getD old (parityCell s q * s .cell + t) 0 ⊕ cond (a && not b) (d t) 0) (turn .within q here) here ∙ ⊕-zero (getD old (parityCell s q * s .cell + t) 0))
+        (ap (λ (i : ℕ). getD mid (i + t) 0) at ∙ turn .so .added q l t lt ∙ ap₂ (λ (a b : Bool). getD old (place s (parityCell s q) + t) 0 ⊕ cond (a && not b) (d t) 0) (turn .within q here) here ∙ ⊕-zero (getD old (place s (parityCell s q) + t) 0))
         (ap (λ (i : ℕ). getD mid (i + t) 0) (h .at) ∙ turn .so .kept .same (h .cell) (h .inside) (h .plain) t lt ∙ ap (λ (i : ℕ). getD old (i + t) 0) (sym (h .at)))
 
-    others : (k : ℕ) → k ≢ parityCell s q → (t : ℕ) → t < s .cell → byteAt s new k t ≡ byteAt s mid k t
-    others = beside s (h .formed) (parityCell s q) to (length bytes) (changedBy mid to from bytes) mid new at (h .whole) put
+    others : (k : ℕ) → k < cells s → k ≢ parityCell s q → (t : ℕ) → t < s .cell → byteAt s new k t ≡ byteAt s mid k t
+    others = beside s (h .formed) (parityCell s q) to (length bytes) (changedBy mid to from bytes) mid new (ordered s (h .formed) .inside q l) at (h .whole) put
 
     pub spread-more : SpreadTo s m (bitAnd rest (rest - 1)) d old new
     spread-more = record {
       within = λ r p. turn .within r (and-left (bit r rest) (not (eqb r q)) (sym (left r) ∙ p));
       so = record {
         long = put .long ∙ turn .so .long;
-        kept = record { same = λ k lk p t lt. others k (not-parity s k q p l) t lt ∙ turn .so .kept .same k lk p t lt };
+        kept = record { same = λ k lk p t lt. others k lk (not-parity s k q p l) t lt ∙ turn .so .kept .same k lk p t lt };
         added = λ r lr t lt. by-equal r q
             (λ e. ap (λ (i : ℕ). byteAt s new (parityCell s i) t) e ∙ own t lt ∙ ap₂ (λ (i : ℕ) (b : Bool). byteAt s old (parityCell s i) t ⊕ cond b (d t) 0) (sym e) (sym (done r e)))
-            (λ e. others (parityCell s r) (λ z. e (ordered s (h .formed) .once r q lr l z)) t lt ∙ turn .so .added r lr t lt
+            (λ e. others (parityCell s r) (ordered s (h .formed) .inside r lr) (λ z. e (ordered s (h .formed) .once r q lr l z)) t lt ∙ turn .so .added r lr t lt
             ∙ ap (λ (b : Bool). byteAt s old (parityCell s r) t ⊕ cond (bit r m && not b) (d t) 0) (sym (left r ∙ ap (λ (b : Bool). bit r rest && not b) (ne-eqb r q e) ∙ and-true (bit r rest))));
       };
     }
@@ -144,14 +145,14 @@ module _ (s : Shape) (w : WellFormed s) (c : ℕ) (inside : c < cells s) (old by
     difference = built s F;
     alone = record {
       long = built-long s F;
-      own = λ t lt. built-at s F c inside t lt ∙ own t;
-      zeros = λ k lk p n t lt. built-at s F k lk t lt ∙ zeros t k p n;
+      own = λ t lt. built-at s w F c inside t lt ∙ own t;
+      zeros = λ k lk p n t lt. built-at s w F k lk t lt ∙ zeros t k p n;
       encoded = record {
         holds = λ q lq t lt.
-            built-at s F (parityCell s q) (ordered s w .inside q lq) t lt ∙ solves t q lq ∙ sym (sum-same s q (λ k. byteAt s (built s F) k t) (F t) (λ k lk p. built-at s F k lk t lt));
+            built-at s w F (parityCell s q) (ordered s w .inside q lq) t lt ∙ solves t q lq ∙ sym (sum-same s q (λ k. byteAt s (built s F) k t) (F t) (λ k lk p. built-at s w F k lk t lt));
       };
     };
-    sum = λ k lk t lt. h k lk t lt ∙ ap (λ (x : ℕ). byteAt s old k t ⊕ x) (sym (built-at s F k lk t lt));
+    sum = λ k lk t lt. h k lk t lt ∙ ap (λ (x : ℕ). byteAt s old k t ⊕ x) (sym (built-at s w F k lk t lt));
   }
 
 module _ (s : Shape) (w : WellFormed s) (c : ℕ) (plain : isParity s c ≡ false) (m : ℕ) (h : DependOn s c m) where
@@ -165,7 +166,7 @@ module _ (s : Shape) (w : WellFormed s) (c : ℕ) (plain : isParity s c ≡ fals
   times-at x k false e = ap (λ (u : ℕ). cond (eqb u 1) x 0) e
 
   -- the set's parity cells, and then the data cell
-  pub written : c < cells s → (from n : ℕ) (bytes old mid new : List ℕ) → from ≡ c * s .cell → n ≡ s .cell → Spread s (λ q. bit q m) (differs old from bytes) old mid → Put mid from n (λ t. getD bytes t 0) new
+  pub written : c < cells s → (from n : ℕ) (bytes old mid new : List ℕ) → from ≡ place s c → n ≡ s .cell → Spread s (λ q. bit q m) (differs old from bytes) old mid → Put mid from n (λ t. getD bytes t 0) new
       → Written s c old bytes new
   unfolding times byteAt isParity
   written inside from n bytes old mid new at whole parts put =
@@ -178,16 +179,16 @@ module _ (s : Shape) (w : WellFormed s) (c : ℕ) (plain : isParity s c ≡ fals
       x : ℕ → ℕ
       x = differs old from bytes
 
-      others : (k : ℕ) → k ≢ c → (t : ℕ) → t < s .cell → byteAt s new k t ≡ byteAt s mid k t
-      others = beside s w c from n (λ t. getD bytes t 0) mid new at whole put
+      others : (k : ℕ) → k < cells s → k ≢ c → (t : ℕ) → t < s .cell → byteAt s new k t ≡ byteAt s mid k t
+      others = beside s w c from n (λ t. getD bytes t 0) mid new inside at whole put
 
       sum : (k : ℕ) → k < cells s → (t : ℕ) → t < s .cell → byteAt s new k t ≡ byteAt s old k t ⊕ times (x t) k
       sum k lk t lt =
           by-equal k c
-          (λ e. ap (λ (i : ℕ). getD new (i + t) 0) (ap (λ (i : ℕ). i * s .cell) e ∙ sym at) ∙ put .inner t (omega (arith, whole))
+          (λ e. ap (λ (i : ℕ). getD new (i + t) 0) (ap (place s) e ∙ sym at) ∙ put .inner t (omega (arith, whole))
           ∙ sym (⊕-cancel (getD old (from + t) 0) (getD bytes t 0))
-          ∙ ap₂ _⊕_ (ap (λ (i : ℕ). getD old (i + t) 0) (at ∙ ap (λ (i : ℕ). i * s .cell) (sym e))) (sym (ap (times (x t)) e ∙ times-at (x t) c true (unit-own s w c m plain))))
-          (λ e. others k e t lt ∙ by-test (isParity s k) parity
+          ∙ ap₂ _⊕_ (ap (λ (i : ℕ). getD old (i + t) 0) (at ∙ ap (place s) (sym e))) (sym (ap (times (x t)) e ∙ times-at (x t) c true (unit-own s w c m plain))))
+          (λ e. others k lk e t lt ∙ by-test (isParity s k) parity
           (λ p. parts .kept .same k lk p t lt ∙ sym (⊕-zero (byteAt s old k t)) ∙ ap (λ (y : ℕ). byteAt s old k t ⊕ y) (sym (times-at (x t) k false (unit-data s w c m plain k p e)))))
         where
           parity : isParity s k ≡ true → byteAt s mid k t ≡ byteAt s old k t ⊕ times (x t) k

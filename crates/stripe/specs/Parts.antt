@@ -2,11 +2,12 @@
 use mathlib.Core.Path.{_≡_}
 use mathlib.Core.List.{List}
 use mathlib.Core.Bool.{Bool, false, cond}
-use Prim.Native.Nat.{ℕ, _+_, _*_, _<_}
+use Prim.Native.Nat.{ℕ, _+_, _<_}
 use lib.ListN.{length, getD}
 use Rattle.xor.specs.Xor.{_⊕_}
 use Rattle.codes.specs.declared.Shape.{Shape}
 use Rattle.codes.specs.Shape.{equations, cells, stripeLength, WellFormed}
+use Rattle.codes.specs.Geometry.{place}
 use Rattle.codes.specs.Encoded.{byteAt, parityCell, isParity}
 use Rattle.codes.specs.Agree.{Agree}
 
@@ -25,7 +26,7 @@ pub record FromCell (s : Shape) (stripe : List ℕ) (from : ℕ) (bytes : List �
   pub formed : WellFormed s
   pub long : length stripe ≡ stripeLength s
   pub cell : ℕ
-  pub at : from ≡ cell * s .cell
+  pub at : from ≡ place s cell
   pub inside : cell < cells s
   pub plain : isParity s cell ≡ false
   pub whole : length bytes ≡ s .cell
