@@ -19,6 +19,7 @@ use Rattle.xor.proofs.Sums.{xors-same}
 use Rattle.bits.specs.Bit.{IsLowest}
 use Rattle.codes.specs.declared.Shape.{Shape}
 use Rattle.codes.specs.Shape.{rows, columns, cells, equations, stripeLength, WellFormed}
+use Rattle.codes.specs.Geometry.{cellOf}
 use Rattle.codes.specs.Encoded.{parityCell, sumsCell, byteAt, sumOver, total, Solves, Encoded}
 use Rattle.codes.specs.Refusals.{refusal, stripeFaults}
 use Rattle.codes.specs.Agree.{inColumns}
@@ -149,7 +150,7 @@ module _ (s : Shape) (w : WellFormed s) (stripe : List ℕ) (long : length strip
     unfolding witness byte-of
     witness-bytes i =
         by-less i (stripeLength s)
-        (λ l. subst (λ (x : ℕ). x < 256) (sym (built-byte s byte-of i l)) (mod-lt (h .mended (i % s .cell) (i / s .cell)) (omega arith)))
+        (λ l. subst (λ (x : ℕ). x < 256) (sym (built-byte s byte-of i l)) (mod-lt (h .mended (i % s .cell) (cellOf s (i / s .cell))) (omega arith)))
         (λ l. subst (λ (x : ℕ). x < 256) (sym (List·getD-eq-default witness 0 (omega (arith, built-long s byte-of)))) (omega arith))
 
     replaced-by : Replaceable s stripe c
@@ -161,12 +162,12 @@ module _ (s : Shape) (w : WellFormed s) (stripe : List ℕ) (long : length strip
         is = record {
           long = built-long s byte-of;
           bytes = witness-bytes;
-          encoded = record { holds = λ q lq t l. solves-same s w (byte-of t) (bytesAt s witness t) (λ k lk. sym (built-at s byte-of k lk t l)) (solves-low s (h .mended t) (h .solves t l)) q lq };
+          encoded = record { holds = λ q lq t l. solves-same s w (byte-of t) (bytesAt s witness t) (λ k lk. sym (built-at s w byte-of k lk t l)) (solves-low s (h .mended t) (h .solves t l)) q lq };
         };
         agree = record {
           same = λ k lk e t l.
               let other : k / rows s ≢ c = λ same. clash (ap₂ _||_ (eq-eqb (k / rows s) c same) (eq-eqb (k / rows s) c same)) e in
-              sym (built-at s byte-of k lk t l ∙ ap (λ (x : ℕ). x % 2 ^ 8) (h .agree t l k lk other ∙ ap (byteAt s stripe k) (zero-add t)) ∙ mod-eq-of-lt (byte-small k t));
+              sym (built-at s w byte-of k lk t l ∙ ap (λ (x : ℕ). x % 2 ^ 8) (h .agree t l k lk other ∙ ap (byteAt s stripe k) (zero-add t)) ∙ mod-eq-of-lt (byte-small k t));
         };
       };
     }

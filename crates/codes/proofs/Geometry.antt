@@ -123,6 +123,12 @@ module _ (s : Shape) (w : WellFormed s) where
   pub place-down : (i j from : ℕ) → i < rows s → from ≡ place s (cellNumber s 0 j) → from + i * s .cell ≡ place s (cellNumber s i j)
   place-down i j from l e = omega (arith, e, place-at 0 j tall, place-at i j l, add-mul (liesAt s j * rows s) 0 (s .cell), add-mul (liesAt s j * rows s) i (s .cell))
 
+  pub row-seen : (c n : ℕ) → n ≡ rows s → c % n < rows s
+  row-seen c n e = subst (λ (k : ℕ). c % k < rows s) (sym e) (row-at c)
+
+  pub number-seen : (c n : ℕ) → n ≡ rows s → cellNumber s (c % n) (c / n) ≡ c
+  number-seen c n e = ap (λ (k : ℕ). cellNumber s (c % k) (c / k)) e ∙ number-at c
+
   pub column-seen : (c n : ℕ) → n ≡ rows s → c < cells s → c / n < columns s
   column-seen c n e l = subst (λ (k : ℕ). c / k < columns s) (sym e) (column-at c l)
 

@@ -54,7 +54,7 @@ module _ (s : Shape) (w : WellFormed s) where
   unfolding holds
   data-holds c plain q l = ap (λ (b : Bool). b || sumsCell s q c) (ne-eqb c (parityCell s q) (not-parity s c q plain l))
 
-  -- but in RDP no equation sums a parity cell
+  -- except in RDP no equation sums a parity cell
   pub none-after : s .code ≢ 1 → (r : ℕ) → equations s ≡ after s r
   none-after n r = by-equal (s .code) 2 (λ e. hcode-n s w e ∙ rw e refl) (λ n′. let e = third n n′ in xcode-n s w e ∙ rw e refl)
     where

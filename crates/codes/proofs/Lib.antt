@@ -1,4 +1,5 @@
--- The laws behind the shape of a stripe, its refusals, the walk through an equation's cells, the order of the equations, and the parity cells that depend on a data cell.
+-- The laws behind the shape of a stripe, its refusals, the walk through an equation's cells, the order of the equations, where cells lie,
+-- the equations that hold a cell, and the parity cells that depend on a data cell.
 pub mod Shapes
 pub mod Order
 pub mod Refused

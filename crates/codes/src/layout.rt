@@ -45,3 +45,12 @@ pub fn cell_place(shape: Shape, row: usize, column: usize) -> usize
 {
     column_place(shape, column) + row * shape.cell
 }
+
+// Where cell c, as the equations number it, starts in the stripe's bytes.
+pub fn place_of(shape: Shape, c: usize) -> usize
+    requires { ⌜ WellFormed shape × (c < cells shape) ⌝ }
+    ensures { λ r. ⌜ r ≡ place shape c ⌝ }
+{
+    let n = crate::row_count(shape);
+    cell_place(shape, c % n, c / n)
+}

@@ -137,7 +137,7 @@ module _ (s : Shape) (w : WellFormed s) (lost : ℕ → Bool) (u : ℕ) (list : 
 
 pub undetermined : (s : Shape) → WellFormed s → (lost : ℕ → Bool) (c : ℕ) → verdict.Undetermined (equations s) (cells s) (holds s) lost c → Undetermined s lost
 undetermined s w lost c h =
-    two-solutions s (w .cellLow) (ordered s w .inside) lost (h .one) (h .other) (λ d l. let small = h .oneBits d l in omega arith) (λ d l. let small = h .otherBits d l in omega arith)
+    two-solutions s w lost (h .one) (h .other) (λ d l. let small = h .oneBits d l in omega arith) (λ d l. let small = h .otherBits d l in omega arith)
     (as-solves s w (h .one) (h .oneSolves)) (as-solves s w (h .other) (h .otherSolves)) (h .agree .same) c (h .inside) (h .differ)
 
 -- ---- what the program decides

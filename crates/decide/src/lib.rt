@@ -78,7 +78,8 @@ fn hold_lost(
     lost: usize,
     rows: &mut [u64; solve::ROOM],
 )
-    requires { ⌜ WellFormed shape × (lost ≤ 64) × ((k : ℕ) → k < lost → getD (now listed) k 0 < cells shape) × (length (now listed) ≡ 64) × (length (now rows) ≡ 64) × ((q : ℕ) → getD (now rows) q 0 ≡ 0) ⌝ }
+    requires { ⌜ WellFormed shape × (lost ≤ 64) × ((k : ℕ) → k < lost → getD (now listed) k 0 < cells shape) × (length (now listed) ≡ 64)
+        × (length (now rows) ≡ 64) × ((q : ℕ) → getD (now rows) q 0 ≡ 0) ⌝ }
     ensures { λ _. ⌜ Rows shape lost (now (listed .entry)) (now (rows .exit)) ⌝ }
 {
     let height = codes::row_count(shape);
@@ -99,7 +100,8 @@ fn gather(
     n: usize,
     sets: &mut [u64; solve::ROOM],
 )
-    requires { ⌜ (n ≤ 64) × (length (now list) ≡ 64) × (length (now sources) ≡ 64) × (length (now sets) ≡ 64) × ((k : ℕ) → k < n → getD (now list) k 0 < 64) ⌝ }
+    requires { ⌜ (n ≤ 64) × (length (now list) ≡ 64) × (length (now sources) ≡ 64) × (length (now sets) ≡ 64)
+        × ((k : ℕ) → k < n → getD (now list) k 0 < 64) ⌝ }
     ensures { λ _. ⌜ Gathered (now (list .entry)) (now (sources .entry)) n (now (sets .exit)) ⌝ }
 {
     let mut k = 0;

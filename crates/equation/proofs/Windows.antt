@@ -3,7 +3,7 @@ use mathlib.Core.Path.{_≡_, refl, sym, ap, ap₂, _∙_, subst}
 use mathlib.Core.Logic.{_≢_, _⊎_, inl, inr, ⊎-elim}
 use mathlib.Core.List.{List}
 use mathlib.Core.Bool.{Bool, true, false, not, _||_}
-use Prim.Native.Nat.{ℕ, zero, suc, _+_, _*_, _≤_, _<_}
+use Prim.Native.Nat.{ℕ, zero, suc, _+_, _≤_, _<_}
 use native.Mathlib.Nat.{add-assoc, zero-add}
 use native.Mathlib.Omega.{arith}
 use lib.Dec.{eqb}
@@ -19,9 +19,11 @@ use Rattle.xor.proofs.Sets.{none-any, any-none}
 use Rattle.codes.specs.declared.Shape.{Shape}
 use Rattle.codes.specs.declared.Sources.{Sources}
 use Rattle.codes.specs.Shape.{cells, equations, stripeLength, WellFormed}
+use Rattle.codes.specs.Geometry.{place}
 use Rattle.codes.specs.Encoded.{parityCell, byteAt, parityByte, total, fails}
 use Rattle.codes.specs.Lines.{Found, Holding}
-use Rattle.codes.proofs.Places.{cells-apart}
+use Rattle.codes.proofs.Ordered.{ordered}
+use Rattle.codes.proofs.Geometry.{place-apart}
 use Rattle.equation.specs.Window.{bytesAt, Window, ParitySet, failsIn}
 
 -- ---- an equation fails, or it holds
@@ -79,15 +81,15 @@ module _ (s : Shape) (stripe : List ℕ) (at n : ℕ) (w : Window s stripe at n)
   unfolding byteAt
   own-byte bytes t = ap (λ (x : ℕ). getD bytes (x + t) 0) (sym (h .to))
 
-  pub parity-set : (new : List ℕ) → Put stripe (r .to + at) n (λ t. sumAt stripe (used r places) (at + t)) new → ParitySet s q at n stripe new
+  pub parity-set : q < equations s → (new : List ℕ) → Put stripe (r .to + at) n (λ t. sumAt stripe (used r places) (at + t)) new → ParitySet s q at n stripe new
   unfolding byteAt
-  parity-set new put = record {
+  parity-set lq new put = record {
     long = put .long;
     own = λ i l. own-byte new (at + i) ∙ ap (λ (x : ℕ). getD new x 0) (sym (add-assoc (r .to) at i)) ∙ put .inner i l ∙ used-sum stripe (at + i);
-    others = λ c lc t l off. put .outer (c * s .cell + t) (by-equal c (parityCell s q)
-        (λ e. let same : c * s .cell ≡ r .to = ap (λ (x : ℕ). x * s .cell) e ∙ sym (h .to) in
+    others = λ c lc t l off. put .outer (place s c + t) (by-equal c (parityCell s q)
+        (λ e. let same : place s c ≡ r .to = ap (place s) e ∙ sym (h .to) in
         by-less t at (λ lo. inl (omega (arith, same))) (λ lo. by-less t (at + n) (λ hi. absurd (off e lo hi)) (λ hi. inr (omega (arith, same)))))
-        (λ e. ⊎-elim (λ side. inl (omega (arith, h .to))) (λ side. inr (omega (arith, h .to, w .ends))) (cells-apart s (w .formed) c (parityCell s q) e)));
+        (λ e. ⊎-elim (λ side. inl (omega (arith, h .to))) (λ side. inr (omega (arith, h .to, w .ends))) (place-apart s (w .formed) c (parityCell s q) lc (ordered s (w .formed) .inside q lq) e)));
   }
 
   -- equation q fails where the run at its parity cell is not the sum

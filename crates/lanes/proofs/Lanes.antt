@@ -20,7 +20,8 @@ use Rattle.codes.specs.declared.Shape.{Shape}
 use Rattle.codes.specs.Shape.{cells, equations, stripeLength, WellFormed}
 use Rattle.codes.specs.Encoded.{byteAt, total}
 use Rattle.codes.proofs.Shapes.{small-equations}
-use Rattle.codes.proofs.Places.{cells-apart}
+use Rattle.codes.specs.Geometry.{place}
+use Rattle.codes.proofs.Geometry.{place-apart}
 use Rattle.codes.proofs.Solutions.{total-same}
 use Rattle.decide.specs.Solver.{summed, mended, Sets}
 use Rattle.equation.specs.Window.{bytesAt}
@@ -200,32 +201,32 @@ module _ (s : Shape) (w : WellFormed s) (list sets : List ℕ) where
   -- one lost cell more, in the bytes of one lane
   module _ (k at n : ℕ) (old mid new lanes : List ℕ) (h : Filled s list sets k at (at + n) old mid) (ends : at + n ≤ s .cell)
       (sum : (i : ℕ) → i < n → laneSum lanes (getD sets k 0) i ≡ summed s (getD sets k 0) (bytesAt s old (at + i)))
-      (put : Put mid (getD list k 0 * s .cell + at) n (λ i. getD mid (getD list k 0 * s .cell + at + i) 0 ⊕ laneSum lanes (getD sets k 0) i) new) where
+      (inside : getD list k 0 < cells s) (put : Put mid (place s (getD list k 0) + at) n (λ i. getD mid (place s (getD list k 0) + at + i) 0 ⊕ laneSum lanes (getD sets k 0) i) new) where
     abbrev own : ℕ
     own = getD list k 0
 
     -- bytes that are not in the run
-    unput : (c t : ℕ) → t < s .cell → (c ≡ own → at ≤ t → t < at + n → ⊥) → byteAt s new c t ≡ byteAt s mid c t
+    unput : (c : ℕ) → c < cells s → (t : ℕ) → t < s .cell → (c ≡ own → at ≤ t → t < at + n → ⊥) → byteAt s new c t ≡ byteAt s mid c t
     unfolding byteAt
-    unput c t lt off =
-        put .outer (c * s .cell + t)
+    unput c lc t lt off =
+        put .outer (place s c + t)
         (by-equal c own
-        (λ e. let same : c * s .cell ≡ own * s .cell = ap (λ (x : ℕ). x * s .cell) e in
+        (λ e. let same : place s c ≡ place s own = ap (place s) e in
         by-less t at (λ lo. inl (omega (arith, same))) (λ lo. by-less t (at + n) (λ hi. absurd (off e lo hi)) (λ hi. inr (omega (arith, same)))))
-        (λ e. ⊎-elim (λ z. inl (omega arith)) (λ z. inr (omega arith)) (cells-apart s w c own e)))
+        (λ e. ⊎-elim (λ z. inl (omega arith)) (λ z. inr (omega arith)) (place-apart s w c own lc inside e)))
 
     -- a byte of the lost cell
     put-at : (t : ℕ) → at ≤ t → t < at + n → byteAt s new own t ≡ byteAt s mid own t ⊕ summed s (getD sets k 0) (bytesAt s old t)
     unfolding byteAt
     put-at t lo hi =
-        let place : own * s .cell + at + (t - at) ≡ own * s .cell + t = omega arith in
+        let there : place s own + at + (t - at) ≡ place s own + t = omega arith in
         let whole : at + (t - at) ≡ t = omega arith in
-        ap (λ (i : ℕ). getD new i 0) (sym place) ∙ put .inner (t - at) (omega arith)
-        ∙ ap₂ _⊕_ (ap (λ (i : ℕ). getD mid i 0) place) (sum (t - at) (omega arith) ∙ ap (λ (i : ℕ). summed s (getD sets k 0) (bytesAt s old i)) whole)
+        ap (λ (i : ℕ). getD new i 0) (sym there) ∙ put .inner (t - at) (omega arith)
+        ∙ ap₂ _⊕_ (ap (λ (i : ℕ). getD mid i 0) there) (sum (t - at) (omega arith) ∙ ap (λ (i : ℕ). summed s (getD sets k 0) (bytesAt s old i)) whole)
 
     out-of : (c : ℕ) → c < cells s → (t : ℕ) → t < s .cell → (leb at t && ltb t (at + n)) ≡ false → (at ≤ t → t < at + n → ⊥)
         → byteAt s new c t ≡ cond (leb at t && ltb t (at + n)) (mended s list sets (k + 1) (bytesAt s old t) c) (byteAt s old c t)
-    out-of c l t lt p off = unput c t lt (λ e. off) ∙ h .byte c l t lt ∙ rw p refl
+    out-of c l t lt p off = unput c l t lt (λ e. off) ∙ h .byte c l t lt ∙ rw p refl
 
     pub filled-more : Filled s list sets (k + 1) at (at + n) old new
     filled-more = record {
@@ -238,7 +239,7 @@ module _ (s : Shape) (w : WellFormed s) (list sets : List ℕ) where
           by-equal own c
           (λ e. ap (λ (d : ℕ). byteAt s new d t) (sym e) ∙ put-at t lo hi ∙ ap (λ (d : ℕ). byteAt s mid d t ⊕ summed s (getD sets k 0) (bytesAt s old t)) e
           ∙ ap₂ _⊕_ mid-is (sym (ap (λ (b : Bool). cond b (summed s (getD sets k 0) (bytesAt s old t)) 0) (eq-eqb own c e))) ∙ sym (mended-more k (bytesAt s old t) c))
-          (λ e. unput c t lt (λ z. absurd (e (sym z))) ∙ mid-is ∙ sym (⊕-zero (mended s list sets k (bytesAt s old t) c))
+          (λ e. unput c l t lt (λ z. absurd (e (sym z))) ∙ mid-is ∙ sym (⊕-zero (mended s list sets k (bytesAt s old t) c))
           ∙ ap (λ (x : ℕ). mended s list sets k (bytesAt s old t) c ⊕ x) (sym (ap (λ (b : Bool). cond b (summed s (getD sets k 0) (bytesAt s old t)) 0) (ne-eqb own c e)))
           ∙ sym (mended-more k (bytesAt s old t) c)) in
           now-is ∙ sym (ap (λ (b : Bool). cond b (mended s list sets (k + 1) (bytesAt s old t) c) (byteAt s old c t)) (in-range at (at + n) t lo hi)))

@@ -130,7 +130,8 @@ fn fill_cells(
 {
     let mut k = 0;
     while k < lost {
-        add_lanes(stripe, listed[k] * shape.cell + at, lanes, sets[k], n);
+        let to = codes::place_of(shape, listed[k]) + at;
+        add_lanes(stripe, to, lanes, sets[k], n);
         k += 1;
     }
 }

@@ -87,9 +87,9 @@ module _ (s : Shape) (w : WellFormed s) (lost : ℕ → Bool) (stripe : List ℕ
           let F : ℕ → ℕ → ℕ = λ t. rebuilt (equations s) (cells s) (holds s) lost state (bytesAt s stripe t) in (
             built s F,
             record {
-              is = built-encoded s w F (λ t l. known .bytes (bytesAt s stripe t) (λ c lc n. bytes (c * s .cell + t)))
+              is = built-encoded s w F (λ t l. known .bytes (bytesAt s stripe t) (λ c lc n. bytes _))
                   (λ t l. as-solves s w (F t) (known .solves (bytesAt s stripe t) (consistent state (not-true (left s lost stripe state) p) t l)));
-              agree = record { same = λ c l n t lt. known .agrees (bytesAt s stripe t) .same c l n ∙ sym (built-at s F c l t lt) };
+              agree = record { same = λ c l n t lt. known .agrees (bytesAt s stripe t) .same c l n ∙ sym (built-at s w F c l t lt) };
             },
           )
 

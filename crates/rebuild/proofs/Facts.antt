@@ -11,7 +11,7 @@ use Rattle.xor.specs.Sets.{any}
 use Rattle.xor.proofs.Cases.{by-test, by-equal, clash}
 use Rattle.xor.proofs.Sets.{any-none, any-some}
 use Rattle.codes.specs.declared.Shape.{Shape}
-use Rattle.codes.specs.Shape.{rows, columns, equations, cells, cellNumber, stripeLength, WellFormed}
+use Rattle.codes.specs.Shape.{mostCell, rows, columns, equations, cells, cellNumber, stripeLength, WellFormed}
 use Rattle.codes.specs.Equations.{equation}
 use Rattle.codes.specs.Encoded.{parityCell, sumsCell, sumOver, Solves, byteAt, Encoded}
 use Rattle.codes.specs.Refusals.{refusal, cellsFaults, columnsFaults}
@@ -90,17 +90,13 @@ module _ (s : Shape) (n : ℕ) where
   unfolding parityCell sumsCell sumOver cells rows columns equations cellNumber equation
   solves-any-cell f h = h
 
-  parity-any-cell : ((q : ℕ) → q < equations s → parityCell s q < cells s) → (q : ℕ) → q < equations (resized s n) → parityCell (resized s n) q < cells (resized s n)
-  unfolding parityCell cells rows columns equations cellNumber equation
-  parity-any-cell h = h
-
-pub undetermined-any-cell : (s : Shape) → WellFormed s → (n : ℕ) → 1 ≤ n → (lost : ℕ → Bool) → Undetermined s lost → Undetermined (resized s n) lost
+pub undetermined-any-cell : (s : Shape) → WellFormed s → (n : ℕ) → 1 ≤ n → n ≤ mostCell → (lost : ℕ → Bool) → Undetermined s lost → Undetermined (resized s n) lost
 unfolding byteAt cells columns rows
-undetermined-any-cell s w n low lost u =
+undetermined-any-cell s w n low high lost u =
     let at = differ-at s w (u .one) (u .other) (u .oneIs .long) (u .otherIs .long) (u .differ) in
     let t = at .byte in
-    two-solutions (resized s n) low (parity-any-cell s n (ordered s w .inside)) lost (bytesAt s (u .one) t) (bytesAt s (u .other) t)
-    (λ c l. u .oneIs .bytes (c * s .cell + t)) (λ c l. u .otherIs .bytes (c * s .cell + t))
+    let w′ : WellFormed (resized s n) = record { codeLow = w .codeLow; codeHigh = w .codeHigh; prime = w .prime; cellLow = low; cellHigh = high } in
+    two-solutions (resized s n) w′ lost (bytesAt s (u .one) t) (bytesAt s (u .other) t) (λ c l. u .oneIs .bytes _) (λ c l. u .otherIs .bytes _)
     (solves-any-cell s n (bytesAt s (u .one) t) (λ q l. u .oneIs .encoded .holds q l t (at .byteIn)))
     (solves-any-cell s n (bytesAt s (u .other) t) (λ q l. u .otherIs .encoded .holds q l t (at .byteIn)))
     (λ c l e. u .agree .same c l e t (at .byteIn)) (at .cell) (at .cellIn) (at .differ)

@@ -8,7 +8,8 @@ ghost use Rattle.solve.specs.Masked.{firstCell, startsAt, Holding, Added
 // Room for the equations, and for the lost cells that they can determine.
 pub const ROOM: usize = 64;
 
-// What elimination answers: it passed all lost cells, and this is the set of the equations that it didn't use; or it stopped at one that has no equation.
+// What elimination answers: it passed all lost cells, and this is the set of the equations that it didn't use; or it stopped at one that has
+// no equation.
 pub enum Eliminated {
     Passed(u64),
     Stopped,

@@ -34,7 +34,7 @@ returns : tie.Need-returns
 returns c =
     let start = c .before .before .before .before .before .before .before .before in
     let a = start .args in
-    parity-set (a .shape) (a .stripe .now) (a .at) (a .n) (start .pre .0) (a .q) _ _ (c .before .before .before .before .before .sources-of .ensures) _ (c .before .before .put-sum .ensures)
+    parity-set (a .shape) (a .stripe .now) (a .at) (a .n) (start .pre .0) (a .q) _ _ (c .before .before .before .before .before .sources-of .ensures) (start .pre .1) _ (c .before .before .put-sum .ensures)
 
 pub set-parity-spec : {M : Type 1} → statement M
 set-parity-spec =
