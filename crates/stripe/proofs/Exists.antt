@@ -3,7 +3,7 @@ use mathlib.Core.Path.{_≡_, refl, sym, _∙_, subst}
 use mathlib.Core.Logic.{_≢_}
 use mathlib.Core.Bool.{false, cond}
 use mathlib.Core.List.{List}
-use Prim.Native.Nat.{ℕ, zero, suc, _+_, _*_, _/_, _%_, _<_}
+use Prim.Native.Nat.{ℕ, zero, suc, _+_, _/_, _%_, _<_}
 use native.Mathlib.Nat.{le-refl}
 use native.Mathlib.Omega.{arith}
 use lib.Dec.{eqb}
@@ -13,6 +13,7 @@ use Rattle.xor.specs.Xor.{_⊕_}
 use Rattle.xor.proofs.Cases.{by-test, by-less}
 use Rattle.codes.specs.declared.Shape.{Shape}
 use Rattle.codes.specs.Shape.{cells, equations, stripeLength, WellFormed}
+use Rattle.codes.specs.Geometry.{cellOf, place}
 use Rattle.codes.specs.Encoded.{parityCell, byteAt, isParity, Solves}
 use Rattle.codes.proofs.Ordered.{ordered}
 use Rattle.codes.proofs.Parity.{sum-same, sum-byte}
@@ -39,7 +40,7 @@ module _ (s : Shape) (w : WellFormed s) (old : List ℕ) (long : length old ≡ 
 
   encoding-at : (c : ℕ) → c < cells s → (t : ℕ) → t < s .cell → byteAt s encoding c t ≡ final t c
   unfolding encoding
-  encoding-at = built-at s final
+  encoding-at = built-at s w final
 
   encodes : EncodingOf s old encoding
   unfolding encoding final
@@ -59,7 +60,7 @@ module _ (s : Shape) (w : WellFormed s) (old : List ℕ) (long : length old ≡ 
   encoding-byte h i =
       by-less i (stripeLength s)
       (λ l. subst (λ (x : ℕ). x < 256) (sym (built-byte s final i l))
-      (settled-byte s (equations s) (λ d. byteAt s old d (i % s .cell)) (λ d. h (d * s .cell + i % s .cell)) (i / s .cell)))
+      (settled-byte s (equations s) (λ d. byteAt s old d (i % s .cell)) (λ d. h (place s d + i % s .cell)) (cellOf s (i / s .cell))))
       (λ l. subst (λ (x : ℕ). x < 256) (sym (List·getD-eq-default encoding 0 (omega (arith, built-long s final)))) (omega arith))
 
   -- exactly one
