@@ -2,6 +2,6 @@
 pub mod Encoding
 pub mod Writing
 pub mod Exists
-pub mod OneAnswer
 pub mod WriteFacts
+pub mod OneAnswer
 pub mod BrokenFacts

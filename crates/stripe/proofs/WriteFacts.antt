@@ -1,4 +1,4 @@
--- What follows for a small write: an encoded stripe stays encoded, with the new cell in place; how many parity cells depend on a position; one answer.
+-- What follows for a small write: an encoded stripe stays encoded, with the new cell in place; one content and one count; how many parity cells depend on a position.
 use mathlib.Core.Path.{_≡_, refl, sym, ap, ap₂, _∙_}
 use mathlib.Core.Logic.{_≢_}
 use mathlib.Core.List.{List}
@@ -14,15 +14,12 @@ use Rattle.codes.specs.declared.Shape.{Shape}
 use Rattle.codes.specs.Shape.{cells, cellNumber, stripeLength, WellFormed}
 use Rattle.codes.specs.Encoded.{byteAt, parityCell, isParity, Encoded}
 use Rattle.codes.specs.Depends.{DataCell}
-use Rattle.codes.proofs.Refused.{write-accepted}
 use Rattle.codes.proofs.Ordered.{ordered}
 use Rattle.codes.proofs.Parity.{sum-same, same-bytes}
 use Rattle.codes.proofs.Solutions.{plus, sum-plus}
 use Rattle.codes.proofs.Units.{unit-count}
 use Rattle.codes.proofs.Sizes.{Sized, rdp-size, hcode-size, xcode-size}
-use Rattle.stripe.specs.declared.WriteCount.{WriteCount}
-use Rattle.stripe.specs.declared.WriteCount.the-variants.{ParityCells, Refused}
-use Rattle.stripe.specs.Write.{Written, Depending, writeNumber, Writes}
+use Rattle.stripe.specs.Write.{Written, Depending}
 use Rattle.stripe.proofs.Encoding.{one-solution, same-data}
 use Rattle.stripe.proofs.Writing.{depending}
 
@@ -46,7 +43,7 @@ module _ (s : Shape) (w : WellFormed s) (c : ℕ) (inside : c < cells s) (old by
   pub other-data : (k : ℕ) → k < cells s → isParity s k ≡ false → k ≢ c → (t : ℕ) → t < s .cell → byteAt s new k t ≡ byteAt s old k t
   other-data k lk p n t lt = h .sum k lk t lt ∙ ap (λ (x : ℕ). byteAt s old k t ⊕ x) (h .alone .zeros k lk p n t lt) ∙ ⊕-zero (byteAt s old k t)
 
--- ---- one answer
+-- ---- one count and one content
 
 module _ (s : Shape) (w : WellFormed s) (c : ℕ) where
   pub one-count : (m n : ℕ) → Depending s c m → Depending s c n → m ≡ n
@@ -72,26 +69,6 @@ module _ (s : Shape) (w : WellFormed s) (c : ℕ) where
                 (λ n. a .alone .zeros k lk p n t lt ∙ sym (b .alone .zeros k lk p n t lt));
           })
           (a .alone .long) (b .alone .long)
-
--- an answer that gives a refusal number is that refusal
-refused-is : (answer : WriteCount) → writeNumber answer ≢ 0 → answer ≡ Refused (writeNumber answer)
-refused-is (ParityCells n) k = absurd (k refl)
-refused-is (Refused number) k = refl
-
-pub write-one : (s : Shape) (row column : ℕ) (bytes old : List ℕ) (a b : WriteCount) (x y : List ℕ) → Writes s row column bytes old a x → Writes s row column bytes old b y → (a ≡ b) × (x ≡ y)
-write-one s row column bytes old a b x y ha hb =
-    by-equal (writeNumber a) 0
-    (λ z.
-    let right = write-accepted s (length old) row column (length bytes) (sym (ha .number) ∙ z) in
-    let za = ha .count z in
-    let zb = hb .count (sym same ∙ z) in (
-      za .says ∙ ap ParityCells (one-count s (right .formed) (cellNumber s row column) (za .cells) (zb .cells) (za .depending) (zb .depending)) ∙ sym (zb .says),
-      one-write s (right .formed) (cellNumber s row column) old bytes x y (right .long) (ha .done z) (hb .done (sym same ∙ z)),
-    ))
-    (λ n. (refused-is a n ∙ ap Refused same ∙ sym (refused-is b (λ z. n (same ∙ z))), ha .refused n ∙ sym (hb .refused (λ z. n (same ∙ z)))))
-  where
-    same : writeNumber a ≡ writeNumber b
-    same = ha .number ∙ sym (hb .number)
 
 -- ---- how many parity cells depend on a position
 

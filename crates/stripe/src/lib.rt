@@ -12,19 +12,8 @@ ghost use Rattle.stripe.specs.Encode.{EncodingOf, Encodes};
 ghost use Rattle.stripe.specs.Broken.{Counts};
 ghost use Rattle.stripe.specs.Parts.{differs, Spread, FromCell};
 ghost use Rattle.stripe.specs.Write.{Written, Depending, Writes};
+use codes::Counted;
 use codes::Shape;
-
-// What broken answers: how many equations fail, or a refusal number.
-pub enum BrokenCount {
-    Equations(usize),
-    Refused(usize),
-}
-
-// What a small write answers: how many parity cells depend on the position, or a refusal number.
-pub enum WriteCount {
-    ParityCells(usize),
-    Refused(usize),
-}
 
 // Sets every parity cell, equation by equation: what a later equation sums has been set by then.
 fn set_parities(shape: Shape, stripe: &mut [u8])
@@ -71,14 +60,14 @@ fn count_broken(shape: Shape, stripe: &[u8]) -> usize
 }
 
 // Broken: how many equations fail in at least one byte. It only reads. Refusals 1, 2, 4 and 5.
-pub fn broken(shape: Shape, stripe: &[u8]) -> BrokenCount
+pub fn broken(shape: Shape, stripe: &[u8]) -> Counted
     ensures { λ r. ⌜ Counts shape (now (stripe .entry)) r ⌝ }
 {
     let refused = codes::stripe_refusal(shape, stripe.len());
     if refused != 0 {
-        return BrokenCount::Refused(refused);
+        return Counted::Refused(refused);
     }
-    BrokenCount::Equations(count_broken(shape, stripe))
+    Counted::Count(count_broken(shape, stripe))
 }
 
 // XORs how the bytes of the data cell at `from` differ from the new ones into the parity cell of every equation of a set.
@@ -116,12 +105,12 @@ fn write_cell(shape: Shape, stripe: &mut [u8], row: usize, column: usize, new: &
 
 // Small write: puts new bytes into a data cell, and into the parity cells that depend on it what the equations say.
 // Answers how many parity cells depend on the position, or refusal 1, 2, 4, 5, 6, 7 or 8.
-pub fn write(shape: Shape, stripe: &mut [u8], row: usize, column: usize, new: &[u8]) -> WriteCount
+pub fn write(shape: Shape, stripe: &mut [u8], row: usize, column: usize, new: &[u8]) -> Counted
     ensures { λ r. ⌜ Writes shape row column (now (new .entry)) (now (stripe .entry)) r (now (stripe .exit)) ⌝ }
 {
     let number = codes::write_refusal(shape, stripe.len(), row, column, new.len());
     if number != 0 {
-        return WriteCount::Refused(number);
+        return Counted::Refused(number);
     }
-    WriteCount::ParityCells(write_cell(shape, stripe, row, column, new))
+    Counted::Count(write_cell(shape, stripe, row, column, new))
 }
