@@ -17,3 +17,4 @@ pub mod Held
 pub mod Depends
 pub mod Sizes
 pub mod Solutions
+pub mod Answer

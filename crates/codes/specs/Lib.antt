@@ -7,3 +7,4 @@ pub mod Lines
 pub mod Depends
 pub mod Holders
 pub mod Agree
+pub mod Answer

@@ -32,6 +32,12 @@ pub struct Shape {
     pub cell: usize,
 }
 
+// What a call answers that counts: how many, or a refusal number.
+pub enum Counted {
+    Count(usize),
+    Refused(usize),
+}
+
 // The rows, columns and equations of a stripe.
 struct Extent {
     rows: usize,

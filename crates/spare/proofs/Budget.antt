@@ -5,10 +5,10 @@ use mathlib.Core.List.{List}
 use Prim.Native.Nat.{ℕ, _-_, min}
 use lib.ListN.{length}
 use Rattle.codes.specs.declared.Shape.{Shape}
+use Rattle.codes.specs.declared.Counted.the-variants.{Count, Refused}
 use Rattle.codes.specs.Shape.{rows, WellFormed}
 use Rattle.codes.specs.Refusals.{refusal}
 use Rattle.codes.proofs.Lines.{rdp-rows}
-use Rattle.spare.specs.declared.RunAnswer.the-variants.{Rows, Refused}
 use Rattle.spare.specs.Refusals.{runFaults}
 use Rattle.spare.specs.Right.{RunRight}
 use Rattle.spare.specs.Run.{rowsRun, RowsRebuilt, RunsByPlan}
@@ -27,17 +27,12 @@ module _ (s : Shape) (k plan first budget : ℕ) (stripe old : List ℕ) (r : �
   run-right z = run-accepted s (length stripe) (length old) k plan first (sym is ∙ z)
 
   pub run-refused : r ≢ 0 → RunsByPlan s k plan first budget stripe old (Refused r) old
-  run-refused n = record { number = is; refused = λ z. refl; count = λ z. absurd (n z); done = λ z. absurd (n z) }
+  run-refused n = (is, n, refl)
 
   pub run-done : r ≡ 0 → (left n : ℕ) (new : List ℕ) → left ≡ rows s - first → n ≡ min budget left → RowsRebuilt s k plan first n stripe old new
-      → RunsByPlan s k plan first budget stripe old (Rows n) new
+      → RunsByPlan s k plan first budget stripe old (Count n) new
   unfolding rowsRun
-  run-done z left n new el e h = record {
-    number = sym z ∙ is;
-    refused = λ y. absurd (y refl);
-    count = λ y. ap Rows same;
-    done = λ y. subst (λ (m : ℕ). RowsRebuilt s k plan first m stripe old new) same h;
-  }
+  run-done z left n new el e h = (sym z ∙ is, (same, subst (λ (m : ℕ). RowsRebuilt s k plan first m stripe old new) same h))
     where
       same : n ≡ min budget (rows s - first)
       same = e ∙ ap (λ (m : ℕ). min budget m) el

@@ -33,7 +33,7 @@ use Rattle.spare.proofs.SameReads.{row-same}
 module _ (s : Shape) (k : ℕ) (stripe : List ℕ) where
   -- a run that was not refused had its numbers right
   ran-right : (turn : Turn) (old new : List ℕ) → Ran s k stripe turn old new → RunRight s (length stripe) (length old) k (turn .plan) (turn .first)
-  ran-right turn old new h = run-accepted s (length stripe) (length old) k (turn .plan) (turn .first) (sym (h .runs .number) ∙ h .accepted)
+  ran-right turn old new h = run-accepted s (length stripe) (length old) k (turn .plan) (turn .first) (sym (h .runs .0))
 
   -- the stripe agrees with an encoded one on all columns but k
   module _ (x : List ℕ) (encoded : Encoded s x) (agree : AgreeBeside s k stripe x) where
@@ -65,11 +65,11 @@ module _ (s : Shape) (k : ℕ) (stripe : List ℕ) where
     unfolding inTurn
     turn-restores turn old new h i li side t lt =
         by-less i (turn .first) (λ l. kept (inl l))
-        (λ lo. by-less i (turn .first + rowsRun s (turn .first) (turn .budget)) (λ hi. h .runs .done (h .accepted) .rebuilt i lo hi t lt ∙ rebuilt-is turn old new h i li t lt) (λ l. kept (inr l)))
+        (λ lo. by-less i (turn .first + rowsRun s (turn .first) (turn .budget)) (λ hi. h .runs .1 .1 .rebuilt i lo hi t lt ∙ rebuilt-is turn old new h i li t lt) (λ l. kept (inr l)))
       where
         kept : (i < turn .first) ⊎ (turn .first + rowsRun s (turn .first) (turn .budget) ≤ i) → byteAt s new i t ≡ byteAt s x (cellNumber s i k) t
         kept off =
-            h .runs .done (h .accepted) .kept i off t lt
+            h .runs .1 .1 .kept i off t lt
             ∙ ⊎-elim (λ p. let lo = leb-true (turn .first) i (and-left (leb (turn .first) i) _ p) in
             let hi = ltb-true i (turn .first + rowsRun s (turn .first) (turn .budget)) (and-right (leb (turn .first) i) _ p) in
             absurd (⊎-elim (λ a. omega arith) (λ a. omega arith) off)) (λ r. r t lt) side
@@ -92,7 +92,7 @@ module _ (s : Shape) (k : ℕ) (stripe : List ℕ) where
     -- runs leave the spare as long as it was, and that is a column's length
     runs-long : (turns : List Turn) (old new : List ℕ) → Runs s k stripe turns old new → length new ≡ length old
     runs-long [] old new h = ap (λ (l : List ℕ). length l) h
-    runs-long (turn ∷ turns) old new h = runs-long turns (h .0) new (h .2) ∙ h .1 .runs .done (h .1 .accepted) .long
+    runs-long (turn ∷ turns) old new h = runs-long turns (h .0) new (h .2) ∙ h .1 .runs .1 .1 .long
 
     -- runs that cover all rows leave column k of the encoded stripe in the spare
     pub column-comes-back : (turn : Turn) (turns : List Turn) (old new : List ℕ) → length x ≡ length stripe → Runs s k stripe (turn ∷ turns) old new

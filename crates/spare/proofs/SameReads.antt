@@ -1,6 +1,6 @@
 -- What a run leaves and answers is decided by its numbers, the spare and the cells that the plan reads.
 use mathlib.Core.Path.{_≡_, refl, sym, ap, _∙_}
-use mathlib.Core.Logic.{_≢_, _⊎_, inl, inr, ⊎-elim}
+use mathlib.Core.Logic.{_⊎_, inl, inr, ⊎-elim}
 use mathlib.Core.List.{List}
 use mathlib.Core.Bool.{Bool, cond, not, _&&_}
 use Prim.Native.Nat.{ℕ, _+_, _-_, _*_, _≤_, _<_, min}
@@ -8,20 +8,21 @@ use native.Mathlib.Nat.{zero-min, min-zero}
 use native.Mathlib.Omega.{arith}
 use lib.Dec.{eqb}
 use lib.ListN.{length}
-use Rattle.xor.proofs.Cases.{by-test, by-equal, by-less}
+use Rattle.xor.proofs.Cases.{by-test, by-less}
 use Rattle.xor.proofs.Sums.{xors-same}
 use Rattle.xor.proofs.Sets.{any-at}
 use Rattle.codes.specs.declared.Shape.{Shape}
+use Rattle.codes.specs.declared.Counted.{Counted}
+use Rattle.codes.specs.declared.Counted.the-variants.{Count}
 use Rattle.codes.specs.Shape.{rows, cells, cellNumber, WellFormed}
 use Rattle.codes.specs.Encoded.{byteAt}
 use Rattle.codes.specs.Holders.{holds}
 use Rattle.codes.specs.Refusals.{refusal}
 use Rattle.codes.proofs.Parity.{same-cells}
-use Rattle.spare.specs.declared.RunAnswer.{RunAnswer}
-use Rattle.spare.specs.declared.RunAnswer.the-variants.{Rows, Refused}
+use Rattle.codes.proofs.Answer.{one-answer}
 use Rattle.spare.specs.Plan.{chosen, readsCell}
 use Rattle.spare.specs.Refusals.{runFaults}
-use Rattle.spare.specs.Run.{runNumber, rowsRun, rebuiltByte, others, RowsRebuilt, RunsByPlan, AgreeOnReads}
+use Rattle.spare.specs.Run.{rowsRun, rebuiltByte, others, RowsRebuilt, RunsByPlan, AgreeOnReads}
 use Rattle.spare.proofs.Refused.{run-accepted}
 use Rattle.spare.proofs.Column.{last-row}
 
@@ -47,40 +48,36 @@ rows-same s w k plan first n stripe stripe′ old x y agree whole hx hy =
     other : (i t : ℕ) → t < s .cell → (i < first) ⊎ (first + n ≤ i) → byteAt s x i t ≡ byteAt s y i t
     other i t lt side = hx .kept i side t lt ∙ sym (hy .kept i side t lt)
 
--- an answer that gives a refusal number is that refusal
-refused-is : (answer : RunAnswer) → runNumber answer ≢ 0 → answer ≡ Refused (runNumber answer)
-refused-is (Rows n) k = absurd (k refl)
-refused-is (Refused number) k = refl
-
 module _ (s : Shape) (k plan first budget : ℕ) where
   -- two stripes that agree on the cells the plan reads, run with equal numbers from equal spares: the same answer and the same spare
-  pub same-reads : (stripe stripe′ old : List ℕ) (a b : RunAnswer) (x y : List ℕ) → length stripe ≡ length stripe′ → AgreeOnReads s k plan stripe stripe′
+  pub same-reads : (stripe stripe′ old : List ℕ) (a b : Counted) (x y : List ℕ) → length stripe ≡ length stripe′ → AgreeOnReads s k plan stripe stripe′
       → RunsByPlan s k plan first budget stripe old a x → RunsByPlan s k plan first budget stripe′ old b y → (a ≡ b) × (x ≡ y)
-  same-reads stripe stripe′ old a b x y long agree ha hb =
-      by-equal (runNumber a) 0
-      (λ z. let right = run-accepted s (length stripe) (length old) k plan first (sym (ha .number) ∙ z) in (
-        ha .count z ∙ sym (hb .count (sym same ∙ z)),
-        rows-same s (right .buffers .of .formed) k plan first (rowsRun s first budget) stripe stripe′ old x y agree (right .buffers .whole) (ha .done z) (hb .done (sym same ∙ z)),
-      ))
-      (λ n. let n′ : runNumber b ≢ 0 = λ z. n (same ∙ z) in (refused-is a n ∙ ap Refused same ∙ sym (refused-is b n′), ha .refused n ∙ sym (hb .refused n′)))
+  same-reads stripe stripe′ old a b x y long agree =
+      one-answer (runFaults s (length stripe) (length old) k plan first) (runFaults s (length stripe′) (length old) k plan first) old x y (done stripe x) (done stripe′ y)
+      (ap (λ (n : ℕ). refusal (runFaults s n (length old) k plan first)) long)
+      (λ z m n hm hn.
+      let right = run-accepted s (length stripe) (length old) k plan first z in
+      (hm .0 ∙ sym (hn .0), rows-same s (right .buffers .of .formed) k plan first (rowsRun s first budget) stripe stripe′ old x y agree (right .buffers .whole) (hm .1) (hn .1)))
+      a b
     where
-      same : runNumber a ≡ runNumber b
-      same = ha .number ∙ ap (λ (n : ℕ). refusal (runFaults s n (length old) k plan first)) long ∙ sym (hb .number)
+      done : List ℕ → List ℕ → ℕ → Type 0
+      done from new n = (n ≡ rowsRun s first budget) × RowsRebuilt s k plan first (rowsRun s first budget) from old new
 
   module _ (stripe old : List ℕ) where
     -- any two results that the contract allows are equal
-    pub run-one : (a b : RunAnswer) (x y : List ℕ) → RunsByPlan s k plan first budget stripe old a x → RunsByPlan s k plan first budget stripe old b y → (a ≡ b) × (x ≡ y)
+    pub run-one : (a b : Counted) (x y : List ℕ) → RunsByPlan s k plan first budget stripe old a x → RunsByPlan s k plan first budget stripe old b y → (a ≡ b) × (x ≡ y)
     run-one a b x y = same-reads stripe stripe old a b x y refl (record { same = λ c lc p t lt. refl })
 
     -- a run with budget 0, or from past the last row, rebuilds nothing
-    pub run-nothing : (budget ≡ 0) ⊎ (first ≡ s .p - 1) → (a : RunAnswer) (x : List ℕ) → RunsByPlan s k plan first budget stripe old a x → runNumber a ≡ 0 → (a ≡ Rows 0) × (x ≡ old)
+    pub run-nothing : (budget ≡ 0) ⊎ (first ≡ s .p - 1) → (n : ℕ) (x : List ℕ) → RunsByPlan s k plan first budget stripe old (Count n) x → (n ≡ 0) × (x ≡ old)
     unfolding rowsRun
-    run-nothing side a x h z =
-        let right = run-accepted s (length stripe) (length old) k plan first (sym (h .number) ∙ z) in
-        let none = ⊎-elim no-budget (λ e. no-row (e ∙ last-row s k (right .buffers .of))) side in (
-          h .count z ∙ ap Rows none,
-          same-cells s (right .buffers .of .formed) (rows s) x old (h .done z .long ∙ right .buffers .whole) (right .buffers .whole)
-              (λ i li t lt. h .done z .kept i (by-less i first (λ l. inl l) (λ l. inr (omega (arith, none)))) t lt),
+    run-nothing side n x h =
+        let right = run-accepted s (length stripe) (length old) k plan first (sym (h .0)) in
+        let none = ⊎-elim no-budget (λ e. no-row (e ∙ last-row s k (right .buffers .of))) side in
+        let done = h .1 in (
+          done .0 ∙ none,
+          same-cells s (right .buffers .of .formed) (rows s) x old (done .1 .long ∙ right .buffers .whole) (right .buffers .whole)
+              (λ i li t lt. done .1 .kept i (by-less i first (λ l. inl l) (λ l. inr (omega (arith, none)))) t lt),
         )
       where
         no-budget : budget ≡ 0 → rowsRun s first budget ≡ 0

@@ -1,6 +1,6 @@
 -- What plan and run by plan promise: document 01, "What each call gives".
 use mathlib.Core.Path.{_≡_}
-use mathlib.Core.Logic.{_≢_, _⊎_}
+use mathlib.Core.Logic.{_⊎_}
 use mathlib.Core.List.{List}
 use mathlib.Core.Bool.{true, cond, not, _&&_}
 use Prim.Native.Nat.{ℕ, _+_, _-_, _≤_, _<_, min}
@@ -8,15 +8,15 @@ use lib.Dec.{eqb}
 use lib.ListN.{length}
 use Rattle.xor.specs.Xor.{xors}
 use Rattle.codes.specs.declared.Shape.{Shape}
+use Rattle.codes.specs.declared.Counted.{Counted}
 use Rattle.codes.specs.Shape.{rows, cells, cellNumber}
 use Rattle.codes.specs.Encoded.{byteAt}
 use Rattle.codes.specs.Holders.{holds}
 use Rattle.codes.specs.Refusals.{refusal}
+use Rattle.codes.specs.Answer.{Answers}
 use Rattle.spare.specs.declared.ReadPlan.{ReadPlan}
 use Rattle.spare.specs.declared.PlanAnswer.{PlanAnswer}
 use Rattle.spare.specs.declared.PlanAnswer.the-variants.{Plan, Refused}
-use Rattle.spare.specs.declared.RunAnswer.{RunAnswer}
-use Rattle.spare.specs.declared.RunAnswer.the-variants.{Rows, Refused as RunRefused}
 use Rattle.spare.specs.Plan.{chosen, readsCell, cellsRead, ByRule}
 use Rattle.spare.specs.Refusals.{planFaults, runFaults}
 
@@ -51,21 +51,15 @@ pub record RowsRebuilt (s : Shape) (k plan first n : ℕ) (stripe old new : List
   pub rebuilt : (i : ℕ) → first ≤ i → i < first + n → (t : ℕ) → t < s .cell → byteAt s new i t ≡ rebuiltByte s k plan stripe i t
   pub kept : (i : ℕ) → (i < first) ⊎ (first + n ≤ i) → (t : ℕ) → t < s .cell → byteAt s new i t ≡ byteAt s old i t
 
--- the refusal number that a run's answer gives; 0 where it gives the number of rows
-abbrev pub runNumber : RunAnswer → ℕ
-runNumber (Rows n) = 0
-runNumber (RunRefused number) = number
-
 -- the rows that a run rebuilds: the smaller of the budget and of the rows left
 unfoldable pub rowsRun : Shape → ℕ → ℕ → ℕ
 rowsRun s first budget = min budget (rows s - first)
 
 -- a run rebuilds so many rows of the spare from the first on and reports how many, or it answers the refusal and leaves every byte
-pub record RunsByPlan (s : Shape) (k plan first budget : ℕ) (stripe old : List ℕ) (answer : RunAnswer) (new : List ℕ) : Type 0 where
-  pub number : runNumber answer ≡ refusal (runFaults s (length stripe) (length old) k plan first)
-  pub refused : runNumber answer ≢ 0 → new ≡ old
-  pub count : runNumber answer ≡ 0 → answer ≡ Rows (rowsRun s first budget)
-  pub done : runNumber answer ≡ 0 → RowsRebuilt s k plan first (rowsRun s first budget) stripe old new
+abbrev pub RunsByPlan : Shape → ℕ → ℕ → ℕ → ℕ → List ℕ → List ℕ → Counted → List ℕ → Type 0
+RunsByPlan s k plan first budget stripe old answer new =
+    Answers (runFaults s (length stripe) (length old) k plan first) old new
+    (λ n. (n ≡ rowsRun s first budget) × RowsRebuilt s k plan first (rowsRun s first budget) stripe old new) answer
 
 -- two stripes agree on the cells that a plan for column k reads
 pub record AgreeOnReads (s : Shape) (k plan : ℕ) (a b : List ℕ) : Type 0 where

@@ -6,10 +6,10 @@ use mathlib.Core.Bool.{Bool, false, _&&_, _||_}
 use Prim.Native.Nat.{ℕ, _+_, _/_, _<_}
 use lib.Dec.{leb, ltb}
 use Rattle.codes.specs.declared.Shape.{Shape}
+use Rattle.codes.specs.declared.Counted.the-variants.{Count}
 use Rattle.codes.specs.Shape.{rows, cells}
 use Rattle.codes.specs.Encoded.{byteAt}
-use Rattle.spare.specs.declared.RunAnswer.{RunAnswer}
-use Rattle.spare.specs.Run.{runNumber, rowsRun, RunsByPlan}
+use Rattle.spare.specs.Run.{rowsRun, RunsByPlan}
 
 -- the plan, the first row and the budget of one run
 pub record Turn : Type 0 where
@@ -19,9 +19,8 @@ pub record Turn : Type 0 where
 
 -- one run that was not refused
 pub record Ran (s : Shape) (k : ℕ) (stripe : List ℕ) (turn : Turn) (old new : List ℕ) : Type 0 where
-  pub answer : RunAnswer
-  pub runs : RunsByPlan s k (turn .plan) (turn .first) (turn .budget) stripe old answer new
-  pub accepted : runNumber answer ≡ 0
+  pub count : ℕ
+  pub runs : RunsByPlan s k (turn .plan) (turn .first) (turn .budget) stripe old (Count count) new
 
 -- the runs of a list, one after the other: each starts from the spare that the one before it left
 abbrev pub Runs : Shape → ℕ → List ℕ → List Turn → List ℕ → List ℕ → Type 0

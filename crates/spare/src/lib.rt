@@ -14,6 +14,7 @@ ghost use Rattle.spare.specs.Right.{RdpColumn, RunRight};
 ghost use Rattle.spare.specs.Places.{RowPlaces, ColumnPut, DiagonalPlaces, RowRight};
 ghost use Rattle.spare.specs.Run.{Plans, rebuiltByte, RowsRebuilt, RunsByPlan};
 ghost use Rattle.spare.specs.Show.{reason, Shown, Shows};
+use codes::Counted;
 use codes::Shape;
 
 // A plan for one lost column: bit i of `rows` is 1 where row i is taken by its diagonal and 0 where by its row; how many distinct
@@ -26,12 +27,6 @@ pub struct ReadPlan {
 // What plan answers: the plan, or a refusal number.
 pub enum PlanAnswer {
     Plan(ReadPlan),
-    Refused(usize),
-}
-
-// What a run by plan answers: how many rows it rebuilt, or a refusal number.
-pub enum RunAnswer {
-    Rows(usize),
     Refused(usize),
 }
 
@@ -357,17 +352,17 @@ pub fn run(
     spare: &mut [u8],
     first: usize,
     budget: usize,
-) -> RunAnswer
+) -> Counted
     ensures { λ r. ⌜ RunsByPlan shape k plan first budget (now (stripe .entry)) (now (spare .entry)) r (now (spare .exit)) ⌝ }
 {
     let refusal = run_refusal(shape, stripe.len(), spare.len(), k, plan, first);
     if refusal != 0 {
-        return RunAnswer::Refused(refusal);
+        return Counted::Refused(refusal);
     }
     let left = rows_left(shape, first);
     let n = smaller(budget, left);
     run_rows(shape, stripe, k, plan, spare, first, n);
-    RunAnswer::Rows(n)
+    Counted::Count(n)
 }
 
 // Where show finds the cell: in the stripe if its column is another than k, in the spare if its row is done; or why it is refused. For callers

@@ -15,6 +15,7 @@ use Rattle.xor.proofs.Sets.{any-at, any-some}
 use Rattle.codes.specs.declared.Shape.{Shape}
 use Rattle.codes.specs.Shape.{cells, equations, stripeLength, WellFormed}
 use Rattle.codes.specs.Encoded.{parityCell, sumsCell, sumOver, parityByte, Solves, byteAt, isParity, Encoded}
+use Rattle.codes.specs.Agree.{Agree}
 use Rattle.codes.proofs.Ordered.{ordered}
 use Rattle.codes.proofs.Parity.{sum-same, same-bytes}
 use Rattle.equation.specs.Window.{ParitySet}
@@ -81,7 +82,7 @@ settled-more s w q old mid new lq h p = subst (λ (k : ℕ). Settled s k old new
 pub settled-all : (s : Shape) (w : WellFormed s) (q : ℕ) (old new : List ℕ) → Settled s q old new → q ≡ equations s → EncodingOf s old new
 settled-all s w q old new h e = record {
   long = h .long;
-  kept = λ c lc d t l. h .same c lc t l ∙ stays s w (λ k. byteAt s old k t) c d q (omega arith);
+  kept = record { same = λ c lc d t l. h .same c lc t l ∙ stays s w (λ k. byteAt s old k t) c d q (omega arith) };
   encoded = record {
     holds = λ r lr t l.
         h .same (parityCell s r) (ordered s w .inside r lr) t l ∙ holds s w (λ k. byteAt s old k t) q (omega arith) r (omega arith)
@@ -122,12 +123,11 @@ module _ (s : Shape) (w : WellFormed s) (f g : ℕ → ℕ) (hf : Solves s f) (h
       (data′ c lc)
 
 -- so encoded stripes with the same data are
-pub same-data : (s : Shape) (w : WellFormed s) (a b : List ℕ) → Encoded s a → Encoded s b → ((c : ℕ) → c < cells s → isParity s c ≡ false → (t : ℕ) → t < s .cell → byteAt s a c t ≡ byteAt s b c t)
-    → length a ≡ stripeLength s → length b ≡ stripeLength s → a ≡ b
-same-data s w a b ha hb data′ la lb =
+pub same-data : (s : Shape) (w : WellFormed s) (a b : List ℕ) → Encoded s a → Encoded s b → Agree s (isParity s) a b → length a ≡ stripeLength s → length b ≡ stripeLength s → a ≡ b
+same-data s w a b ha hb agree la lb =
     same-bytes s w a b la lb
-    (λ c lc t lt. one-solution s w (λ k. byteAt s a k t) (λ k. byteAt s b k t) (λ q l. ha .holds q l t lt) (λ q l. hb .holds q l t lt) (λ k lk p. data′ k lk p t lt) c lc)
+    (λ c lc t lt. one-solution s w (λ k. byteAt s a k t) (λ k. byteAt s b k t) (λ q l. ha .holds q l t lt) (λ q l. hb .holds q l t lt) (λ k lk p. agree .same k lk p t lt) c lc)
 
 pub one-encoding : (s : Shape) (w : WellFormed s) (old a b : List ℕ) → length old ≡ stripeLength s → EncodingOf s old a → EncodingOf s old b → a ≡ b
 one-encoding s w old a b long ha hb =
-    same-data s w a b (ha .encoded) (hb .encoded) (λ c lc d t lt. ha .kept c lc d t lt ∙ sym (hb .kept c lc d t lt)) (ha .long ∙ long) (hb .long ∙ long)
+    same-data s w a b (ha .encoded) (hb .encoded) (record { same = λ c lc d t lt. ha .kept .same c lc d t lt ∙ sym (hb .kept .same c lc d t lt) }) (ha .long ∙ long) (hb .long ∙ long)

@@ -1,26 +1,27 @@
 -- For every stripe there is exactly one encoded stripe with the same data cells, and its bytes are bytes.
-use mathlib.Core.Path.{_≡_, refl, sym, ap, _∙_, subst}
+use mathlib.Core.Path.{_≡_, refl, sym, _∙_, subst}
 use mathlib.Core.Logic.{_≢_}
-use mathlib.Core.Bool.{false}
+use mathlib.Core.Bool.{false, cond}
 use mathlib.Core.List.{List}
-use Prim.Native.Nat.{ℕ, zero, suc, _+_, _*_, _/_, _%_, _<_}
+use Prim.Native.Nat.{ℕ, zero, suc, _+_, _/_, _%_, _<_}
 use native.Mathlib.Nat.{le-refl}
 use native.Mathlib.Omega.{arith}
 use lib.Dec.{eqb}
 use lib.ListN.{length, getD, List·getD-eq-default}
-use borrow.Author.Tests.{eq-eqb}
+use borrow.Author.Tests.{eq-eqb, ne-eqb}
 use Rattle.xor.specs.Xor.{_⊕_}
 use Rattle.xor.proofs.Cases.{by-test, by-less}
 use Rattle.codes.specs.declared.Shape.{Shape}
 use Rattle.codes.specs.Shape.{cells, equations, stripeLength, WellFormed}
-use Rattle.codes.specs.Encoded.{parityCell, byteAt, isParity}
+use Rattle.codes.specs.Geometry.{cellOf, place}
+use Rattle.codes.specs.Encoded.{parityCell, byteAt, isParity, Solves}
 use Rattle.codes.proofs.Ordered.{ordered}
 use Rattle.codes.proofs.Parity.{sum-same, sum-byte}
 use Rattle.stripe.specs.Encode.{EncodingOf}
-use Rattle.stripe.specs.Write.{Difference, Written, Unit}
-use Rattle.stripe.proofs.Parts.{point, point-other}
+use Rattle.stripe.specs.Write.{Written, Alone}
 use Rattle.codes.proofs.Built.{built, built-long, built-at, built-byte}
 use Rattle.stripe.proofs.Encoding.{settled, holds, stays, one-encoding}
+use Rattle.stripe.proofs.Writing.{written-by}
 
 -- parity cells that are set to sums of bytes are bytes
 settled-byte : (s : Shape) (q : ℕ) (f : ℕ → ℕ) → ((c : ℕ) → f c < 256) → (c : ℕ) → settled s q f c < 256
@@ -39,13 +40,13 @@ module _ (s : Shape) (w : WellFormed s) (old : List ℕ) (long : length old ≡ 
 
   encoding-at : (c : ℕ) → c < cells s → (t : ℕ) → t < s .cell → byteAt s encoding c t ≡ final t c
   unfolding encoding
-  encoding-at = built-at s final
+  encoding-at = built-at s w final
 
   encodes : EncodingOf s old encoding
   unfolding encoding final
   encodes = record {
     long = built-long s final ∙ sym long;
-    kept = λ c lc d t lt. encoding-at c lc t lt ∙ stays s w (λ k. byteAt s old k t) c d (equations s) (le-refl (equations s));
+    kept = record { same = λ c lc d t lt. encoding-at c lc t lt ∙ stays s w (λ k. byteAt s old k t) c d (equations s) (le-refl (equations s)) };
     encoded = record {
       holds = λ q lq t lt.
           encoding-at (parityCell s q) (ordered s w .inside q lq) t lt
@@ -59,7 +60,7 @@ module _ (s : Shape) (w : WellFormed s) (old : List ℕ) (long : length old ≡ 
   encoding-byte h i =
       by-less i (stripeLength s)
       (λ l. subst (λ (x : ℕ). x < 256) (sym (built-byte s final i l))
-      (settled-byte s (equations s) (λ d. byteAt s old d (i % s .cell)) (λ d. h (d * s .cell + i % s .cell)) (i / s .cell)))
+      (settled-byte s (equations s) (λ d. byteAt s old d (i % s .cell)) (λ d. h (place s d + i % s .cell)) (cellOf s (i / s .cell))))
       (λ l. subst (λ (x : ℕ). x < 256) (sym (List·getD-eq-default encoding 0 (omega (arith, built-long s final)))) (omega arith))
 
   -- exactly one
@@ -68,6 +69,10 @@ module _ (s : Shape) (w : WellFormed s) (old : List ℕ) (long : length old ≡ 
   exactly-one h = (encoding, encodes, encoding-byte h, λ other e. one-encoding s w old other encoding long e encodes)
 
 -- ---- the same of a small write: the difference alone, encoded, and the unit
+
+-- x in cell c, and 0 elsewhere
+abbrev pub point : ℕ → ℕ → ℕ → ℕ
+point c x k = cond (eqb k c) x 0
 
 module _ (s : Shape) (w : WellFormed s) (c : ℕ) (inside : c < cells s) (plain : isParity s c ≡ false) where
   -- x at cell c alone, encoded
@@ -78,33 +83,19 @@ module _ (s : Shape) (w : WellFormed s) (c : ℕ) (inside : c < cells s) (plain 
   alone-own x = stays s w (point c x) c plain (equations s) (le-refl (equations s)) ∙ rw (eq-eqb c c refl) refl
 
   alone-data : (x k : ℕ) → isParity s k ≡ false → k ≢ c → alone x k ≡ 0
-  alone-data x k p n = stays s w (point c x) k p (equations s) (le-refl (equations s)) ∙ point-other s c x k n
+  alone-data x k p n = stays s w (point c x) k p (equations s) (le-refl (equations s)) ∙ rw (ne-eqb k c n) refl
 
-  pub unit-exists : Unit s c (alone 1)
-  unit-exists = record { own = alone-own 1; zeros = λ k lk p n. alone-data 1 k p n; holds = holds s w (point c 1) (equations s) (le-refl (equations s)) }
+  alone-solves : (x : ℕ) → Solves s (alone x)
+  alone-solves x = holds s w (point c x) (equations s) (le-refl (equations s))
 
-  pub difference-exists : (old bytes : List ℕ) → Difference s c old bytes (built s (λ t. alone (byteAt s old c t ⊕ getD bytes t 0)))
-  difference-exists old bytes = record {
-    long = built-long s F;
-    own = λ t lt. built-at s F c inside t lt ∙ alone-own (byteAt s old c t ⊕ getD bytes t 0);
-    zeros = λ k lk p n t lt. built-at s F k lk t lt ∙ alone-data (byteAt s old c t ⊕ getD bytes t 0) k p n;
-    encoded = record {
-      holds = λ q lq t lt.
-          built-at s F (parityCell s q) (ordered s w .inside q lq) t lt
-          ∙ holds s w (point c (byteAt s old c t ⊕ getD bytes t 0)) (equations s) (le-refl (equations s)) q lq
-          ∙ sym (sum-same s q (λ k. byteAt s (built s F) k t) (F t) (λ k lk p. built-at s F k lk t lt));
-    };
-  }
-    where
-      F : ℕ → ℕ → ℕ
-      F t = alone (byteAt s old c t ⊕ getD bytes t 0)
+  pub unit-exists : Alone s c (alone 1)
+  unit-exists = record { own = alone-own 1; zeros = λ k lk p n. alone-data 1 k p n; holds = alone-solves 1 }
 
   -- what is the XOR with it is written
-  pub written-by : (old bytes new : List ℕ) → length new ≡ length old
+  pub written-alone : (old bytes new : List ℕ) → length new ≡ length old
       → ((k : ℕ) → k < cells s → (t : ℕ) → t < s .cell → byteAt s new k t ≡ byteAt s old k t ⊕ alone (byteAt s old c t ⊕ getD bytes t 0) k) → Written s c old bytes new
-  written-by old bytes new long h = record {
-    long = long;
-    difference = built s (λ t. alone (byteAt s old c t ⊕ getD bytes t 0));
-    alone = difference-exists old bytes;
-    sum = λ k lk t lt. h k lk t lt ∙ ap (λ (x : ℕ). byteAt s old k t ⊕ x) (sym (built-at s (λ u. alone (byteAt s old c u ⊕ getD bytes u 0)) k lk t lt));
-  }
+  written-alone old bytes =
+      written-by s w c inside old bytes (λ t. alone (byteAt s old c t ⊕ getD bytes t 0))
+      (λ t. alone-own (byteAt s old c t ⊕ getD bytes t 0))
+      (λ t. alone-data (byteAt s old c t ⊕ getD bytes t 0))
+      (λ t. alone-solves (byteAt s old c t ⊕ getD bytes t 0))

@@ -1,8 +1,7 @@
 -- The laws behind the calls on a stripe, and the theorems about their contracts.
 pub mod Encoding
-pub mod Parts
 pub mod Writing
 pub mod Exists
-pub mod OneAnswer
 pub mod WriteFacts
+pub mod OneAnswer
 pub mod BrokenFacts

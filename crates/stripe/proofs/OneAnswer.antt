@@ -1,17 +1,21 @@
 -- Any two results that a call's contract allows are equal: the answer, and every lent byte.
-use mathlib.Core.Path.{_≡_, refl, sym, ap, _∙_}
-use mathlib.Core.Logic.{_≢_}
+use mathlib.Core.Path.{_≡_, refl, sym, _∙_}
 use mathlib.Core.List.{List}
 use Prim.Native.Nat.{ℕ}
 use lib.ListN.{length}
 use Rattle.xor.proofs.Cases.{by-equal}
 use Rattle.codes.specs.declared.Shape.{Shape}
-use Rattle.codes.proofs.Refused.{accepted}
-use Rattle.stripe.specs.declared.BrokenCount.{BrokenCount}
-use Rattle.stripe.specs.declared.BrokenCount.the-variants.{Equations, Refused}
+use Rattle.codes.specs.declared.Counted.{Counted}
+use Rattle.codes.specs.Shape.{cellNumber}
+use Rattle.codes.specs.Encoded.{brokenEquations}
+use Rattle.codes.specs.Refusals.{stripeFaults, writeFaults}
+use Rattle.codes.proofs.Refused.{accepted, write-accepted}
+use Rattle.codes.proofs.Answer.{one-answer}
 use Rattle.stripe.specs.Encode.{Encodes}
-use Rattle.stripe.specs.Broken.{numberOf, Counts}
+use Rattle.stripe.specs.Broken.{Counts}
+use Rattle.stripe.specs.Write.{Written, Depending, Writes}
 use Rattle.stripe.proofs.Encoding.{one-encoding}
+use Rattle.stripe.proofs.WriteFacts.{one-count, one-write}
 
 -- encode
 pub encode-one : (s : Shape) (old : List ℕ) (a b : ℕ) (x y : List ℕ) → Encodes s old a x → Encodes s old b y → (a ≡ b) × (x ≡ y)
@@ -25,17 +29,20 @@ encode-one s old a b x y ha hb = (
     same : a ≡ b
     same = ha .number ∙ sym (hb .number)
 
--- an answer that gives a refusal number is that refusal
-refused-is : (answer : BrokenCount) → numberOf answer ≢ 0 → answer ≡ Refused (numberOf answer)
-refused-is (Equations n) k = absurd (k refl)
-refused-is (Refused number) k = refl
-
 -- broken
-pub broken-one : (s : Shape) (stripe : List ℕ) (a b : BrokenCount) → Counts s stripe a → Counts s stripe b → a ≡ b
+pub broken-one : (s : Shape) (stripe : List ℕ) (a b : Counted) → Counts s stripe a → Counts s stripe b → a ≡ b
 broken-one s stripe a b ha hb =
-    by-equal (numberOf a) 0
-    (λ z. ha .count z ∙ sym (hb .count (sym same ∙ z)))
-    (λ n. refused-is a n ∙ ap Refused same ∙ sym (refused-is b (λ z. n (same ∙ z))))
-  where
-    same : numberOf a ≡ numberOf b
-    same = ha .number ∙ sym (hb .number)
+    let faults = stripeFaults s (length stripe) in
+    let is : ℕ → Type 0 = λ n. n ≡ brokenEquations s stripe in
+    one-answer faults faults stripe stripe stripe is is refl (λ z m n em en. (em ∙ sym en, refl)) a b ha hb .0
+
+-- a small write
+pub write-one : (s : Shape) (row column : ℕ) (bytes old : List ℕ) (a b : Counted) (x y : List ℕ) → Writes s row column bytes old a x → Writes s row column bytes old b y → (a ≡ b) × (x ≡ y)
+write-one s row column bytes old a b x y =
+    let faults = writeFaults s (length old) row column (length bytes) in
+    let cell = cellNumber s row column in
+    one-answer faults faults old x y (λ n. Written s cell old bytes x × Depending s cell n) (λ n. Written s cell old bytes y × Depending s cell n) refl
+    (λ z m n hm hn.
+    let right = write-accepted s (length old) row column (length bytes) z in
+    (one-count s (right .formed) cell m n (hm .1) (hn .1), one-write s (right .formed) cell old bytes x y (right .long) (hm .0) (hn .0)))
+    a b

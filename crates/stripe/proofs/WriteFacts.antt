@@ -1,34 +1,25 @@
--- What follows for a small write: an encoded stripe stays encoded, with the new cell in place; how many parity cells depend on a position; one answer.
+-- What follows for a small write: an encoded stripe stays encoded, with the new cell in place; one content and one count; how many parity cells depend on a position.
 use mathlib.Core.Path.{_≡_, refl, sym, ap, ap₂, _∙_}
 use mathlib.Core.Logic.{_≢_}
-use mathlib.Core.List.{List, []}
+use mathlib.Core.List.{List}
 use mathlib.Core.Bool.{false, cond, not, _&&_, _||_}
-use Prim.Native.Nat.{ℕ, _+_, _-_, _*_, _%_, _≤_, _<_}
-use native.Mathlib.Nat.{mod-lt, mod-eq-of-lt}
-use native.Mathlib.Omega.{arith}
-use lib.Dec.{eqb, ltb}
+use Prim.Native.Nat.{ℕ, _+_, _-_, _<_}
+use lib.Dec.{eqb}
 use lib.ListN.{length, getD}
-use borrow.Author.Tests.{lt-ltb, le-ltb, eq-eqb, ne-eqb}
 use Rattle.xor.specs.Xor.{_⊕_}
-use Rattle.xor.proofs.Cases.{by-equal, by-less}
+use Rattle.xor.proofs.Cases.{by-equal}
 use Rattle.xor.proofs.Algebra.{⊕-zero, ⊕-cancel}
 use Rattle.xor.proofs.Sets.{count-same}
 use Rattle.codes.specs.declared.Shape.{Shape}
-use Rattle.codes.specs.declared.Dependents.{Dependents}
-use Rattle.codes.specs.Shape.{cells, equations, cellNumber, stripeLength, WellFormed}
+use Rattle.codes.specs.Shape.{cells, cellNumber, stripeLength, WellFormed}
 use Rattle.codes.specs.Encoded.{byteAt, parityCell, isParity, Encoded}
-use Rattle.codes.specs.Depends.{DataCell, DependOn}
-use Rattle.codes.proofs.Shapes.{low}
-use Rattle.codes.proofs.Residues.{wrapped}
-use Rattle.codes.proofs.Refused.{write-accepted}
+use Rattle.codes.specs.Depends.{DataCell}
 use Rattle.codes.proofs.Ordered.{ordered}
 use Rattle.codes.proofs.Parity.{sum-same, same-bytes}
 use Rattle.codes.proofs.Solutions.{plus, sum-plus}
-use Rattle.codes.proofs.Positions.{cell-inside, rdp-n, hcode-n, xcode-n}
-use Rattle.codes.proofs.Depends.{rdp-depends, rdp-row-small, rdp-column-small, hcode-depends, one-of-them, xcode-depends}
-use Rattle.stripe.specs.declared.WriteCount.{WriteCount}
-use Rattle.stripe.specs.declared.WriteCount.the-variants.{ParityCells, Refused}
-use Rattle.stripe.specs.Write.{Written, Depending, writeNumber, Writes}
+use Rattle.codes.proofs.Units.{unit-count}
+use Rattle.codes.proofs.Sizes.{Sized, rdp-size, hcode-size, xcode-size}
+use Rattle.stripe.specs.Write.{Written, Depending}
 use Rattle.stripe.proofs.Encoding.{one-solution, same-data}
 use Rattle.stripe.proofs.Writing.{depending}
 
@@ -52,7 +43,7 @@ module _ (s : Shape) (w : WellFormed s) (c : ℕ) (inside : c < cells s) (old by
   pub other-data : (k : ℕ) → k < cells s → isParity s k ≡ false → k ≢ c → (t : ℕ) → t < s .cell → byteAt s new k t ≡ byteAt s old k t
   other-data k lk p n t lt = h .sum k lk t lt ∙ ap (λ (x : ℕ). byteAt s old k t ⊕ x) (h .alone .zeros k lk p n t lt) ∙ ⊕-zero (byteAt s old k t)
 
--- ---- one answer
+-- ---- one count and one content
 
 module _ (s : Shape) (w : WellFormed s) (c : ℕ) where
   pub one-count : (m n : ℕ) → Depending s c m → Depending s c n → m ≡ n
@@ -72,85 +63,29 @@ module _ (s : Shape) (w : WellFormed s) (c : ℕ) where
       differences : a .difference ≡ b .difference
       differences =
           same-data s w (a .difference) (b .difference) (a .alone .encoded) (b .alone .encoded)
-          (λ k lk p t lt. by-equal k c
-          (λ e. ap (λ (i : ℕ). byteAt s (a .difference) i t) e ∙ a .alone .own t lt ∙ sym (ap (λ (i : ℕ). byteAt s (b .difference) i t) e ∙ b .alone .own t lt))
-          (λ n. a .alone .zeros k lk p n t lt ∙ sym (b .alone .zeros k lk p n t lt)))
+          (record {
+            same = λ k lk p t lt. by-equal k c
+                (λ e. ap (λ (i : ℕ). byteAt s (a .difference) i t) e ∙ a .alone .own t lt ∙ sym (ap (λ (i : ℕ). byteAt s (b .difference) i t) e ∙ b .alone .own t lt))
+                (λ n. a .alone .zeros k lk p n t lt ∙ sym (b .alone .zeros k lk p n t lt));
+          })
           (a .alone .long) (b .alone .long)
-
--- an answer that gives a refusal number is that refusal
-refused-is : (answer : WriteCount) → writeNumber answer ≢ 0 → answer ≡ Refused (writeNumber answer)
-refused-is (ParityCells n) k = absurd (k refl)
-refused-is (Refused number) k = refl
-
-pub write-one : (s : Shape) (row column : ℕ) (bytes old : List ℕ) (a b : WriteCount) (x y : List ℕ) → Writes s row column bytes old a x → Writes s row column bytes old b y → (a ≡ b) × (x ≡ y)
-write-one s row column bytes old a b x y ha hb =
-    by-equal (writeNumber a) 0
-    (λ z.
-    let right = write-accepted s (length old) row column (length bytes) (sym (ha .number) ∙ z) in
-    let za = ha .count z in
-    let zb = hb .count (sym same ∙ z) in (
-      za .says ∙ ap ParityCells (one-count s (right .formed) (cellNumber s row column) (za .cells) (zb .cells) (za .depending) (zb .depending)) ∙ sym (zb .says),
-      one-write s (right .formed) (cellNumber s row column) old bytes x y (right .long) (ha .done z) (hb .done (sym same ∙ z)),
-    ))
-    (λ n. (refused-is a n ∙ ap Refused same ∙ sym (refused-is b (λ z. n (same ∙ z))), ha .refused n ∙ sym (hb .refused (λ z. n (same ∙ z)))))
-  where
-    same : writeNumber a ≡ writeNumber b
-    same = ha .number ∙ sym (hb .number)
 
 -- ---- how many parity cells depend on a position
 
 module _ (s : Shape) (w : WellFormed s) (i j : ℕ) (cell : DataCell s i j) (n : ℕ) (h : Depending s (cellNumber s i j) n) where
-  -- by the equations that sum the cell
-  by-equations : (d : Dependents) → DependOn s (cellNumber s i j) d → n ≡ 1 + (cond (ltb (d .second) (equations s)) 1 0 + cond (ltb (d .third) (equations s)) 1 0)
-  by-equations d e =
-      one-count s w (cellNumber s i j) n (1 + (cond (ltb (d .second) (equations s)) 1 0 + cond (ltb (d .third) (equations s)) 1 0)) h
-      (depending s w (cellNumber s i j) (cellNumber s i j * s .cell) refl (cell-inside s w i j (cell .low) (cell .right)) (cell .plain) d e [] (1 + (cond (ltb (d .second) (equations s)) 1 0 + cond (ltb (d .third) (equations s)) 1 0)) refl)
+  -- as many as the set of their equations has members
+  by-size : (m : ℕ) → Sized s (cellNumber s i j) m → n ≡ m
+  by-size m z =
+      one-count s w (cellNumber s i j) n m h
+      (depending s w (cellNumber s i j) (cell .plain) (z .set) (z .depends) m (unit-count s w (cellNumber s i j) (z .set) (cell .plain) ∙ z .size))
 
   -- RDP: 2 where i = 0 or i + j = p - 1, otherwise 3
   pub rdp-count : s .code ≡ 1 → n ≡ cond (eqb i 0 || eqb (i + j) (s .p - 1)) 2 3
-  rdp-count is-rdp =
-      by-equations (record { first = i; second = s .p - 1 + (i + j) % s .p; third = s .p - 1 + (i + (s .p - 1)) % s .p }) (rdp-depends s w i j cell is-rdp ((i + j) % s .p) ((i + (s .p - 1)) % s .p) refl refl)
-      ∙ by-equal i 0
-      (λ e. rw (eq-eqb i 0 e, le-ltb (s .p - 1 + (i + (s .p - 1)) % s .p) (equations s) (last e), lt-ltb (s .p - 1 + (i + j) % s .p) (equations s) (inside-diagonal (λ z. omega (arith, small′)))) refl)
-      (λ e. rw (ne-eqb i 0 e, lt-ltb (s .p - 1 + (i + (s .p - 1)) % s .p) (equations s) (not-last e))
-      (by-equal (i + j) (s .p - 1)
-      (λ z. rw (eq-eqb (i + j) (s .p - 1) z, le-ltb (s .p - 1 + (i + j) % s .p) (equations s) (off-diagonal z)) refl)
-      (λ z. rw (ne-eqb (i + j) (s .p - 1) z, lt-ltb (s .p - 1 + (i + j) % s .p) (equations s) (inside-diagonal z)) refl)))
-    where
-      small : i < s .p - 1
-      small = rdp-row-small s w i j cell is-rdp
-
-      small′ : j < s .p - 1
-      small′ = rdp-column-small s w i j cell is-rdp
-
-      last : i ≡ 0 → equations s ≤ s .p - 1 + (i + (s .p - 1)) % s .p
-      last e = let at : (i + (s .p - 1)) % s .p ≡ i + (s .p - 1) = mod-eq-of-lt (omega (arith, low s w)) in omega (arith, rdp-n s w is-rdp)
-
-      not-last : i ≢ 0 → s .p - 1 + (i + (s .p - 1)) % s .p < equations s
-      not-last e = let at = wrapped (s .p) (i + (s .p - 1)) (omega (arith, low s w)) (omega (arith, small, low s w)) in omega (arith, rdp-n s w is-rdp, small, low s w)
-
-      off-diagonal : i + j ≡ s .p - 1 → equations s ≤ s .p - 1 + (i + j) % s .p
-      off-diagonal z = let at : (i + j) % s .p ≡ i + j = mod-eq-of-lt (omega (arith, low s w)) in omega (arith, rdp-n s w is-rdp)
-
-      inside-diagonal : i + j ≢ s .p - 1 → s .p - 1 + (i + j) % s .p < equations s
-      inside-diagonal z =
-          by-less (i + j) (s .p)
-          (λ l. let at : (i + j) % s .p ≡ i + j = mod-eq-of-lt l in omega (arith, rdp-n s w is-rdp, low s w))
-          (λ l. let at = wrapped (s .p) (i + j) l (omega (arith, small, small′)) in omega (arith, rdp-n s w is-rdp, small, small′, low s w))
+  rdp-count is-rdp = by-size (cond (eqb i 0 || eqb (i + j) (s .p - 1)) 2 3) (rdp-size s w i j cell is-rdp)
 
   -- H-Code and X-Code: always 2
   pub hcode-count : s .code ≡ 2 → n ≡ 2
-  hcode-count is-hcode =
-      by-equations (record { first = i; second = s .p - 1 + (j + (s .p - 2 - i)) % s .p; third = 2 * (s .p - 1) }) (hcode-depends s w i j cell is-hcode ((j + (s .p - 2 - i)) % s .p) refl)
-      ∙ rw (lt-ltb (s .p - 1 + (j + (s .p - 2 - i)) % s .p) (equations s) there, le-ltb (2 * (s .p - 1)) (equations s) (omega (arith, hcode-n s w is-hcode))) refl
-    where
-      there : s .p - 1 + (j + (s .p - 2 - i)) % s .p < equations s
-      there = let small : (j + (s .p - 2 - i)) % s .p < s .p = mod-lt (j + (s .p - 2 - i)) (omega (arith, low s w)) in let one = one-of-them s w i j cell is-hcode in omega (arith, hcode-n s w is-hcode)
+  hcode-count is-hcode = by-size 2 (hcode-size s w i j cell is-hcode)
 
   pub xcode-count : s .code ≡ 3 → n ≡ 2
-  xcode-count is-xcode =
-      by-equations (record { first = (j + (s .p - 2 - i)) % s .p; second = s .p + (j + (i + 2)) % s .p; third = 2 * s .p }) (xcode-depends s w i j cell is-xcode ((j + (s .p - 2 - i)) % s .p) ((j + (i + 2)) % s .p) refl refl)
-      ∙ rw (lt-ltb (s .p + (j + (i + 2)) % s .p) (equations s) there, le-ltb (2 * s .p) (equations s) (omega (arith, xcode-n s w is-xcode))) refl
-    where
-      there : s .p + (j + (i + 2)) % s .p < equations s
-      there = let small : (j + (i + 2)) % s .p < s .p = mod-lt (j + (i + 2)) (omega (arith, low s w)) in omega (arith, xcode-n s w is-xcode)
+  xcode-count is-xcode = by-size 2 (xcode-size s w i j cell is-xcode)

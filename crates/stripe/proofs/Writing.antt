@@ -1,140 +1,42 @@
--- A small write: its steps XOR the difference of old and new bytes into the data cell and the parity cells that depend on it.
+-- A small write: the difference of old and new bytes goes into the parity cells of a set of equations, one after the other, and then the data cell is
+-- written. The set's parity cells and the data cell solve every equation, so that is the XOR with an encoded stripe.
 use mathlib.Core.Path.{_≡_, refl, sym, ap, ap₂, _∙_, subst}
-use mathlib.Core.Logic.{inl, inr, ⊎-elim}
+use mathlib.Core.Logic.{_≢_, inl, inr, ⊎-elim}
 use mathlib.Core.List.{List}
-use mathlib.Core.Bool.{Bool, true, false, cond}
-use Prim.Native.Nat.{ℕ, _+_, _*_, _≤_, _<_}
+use mathlib.Core.Bool.{Bool, true, false, cond, not, _&&_, and-true}
+use Prim.Native.Nat.{ℕ, _+_, _-_, _≤_, _<_}
 use native.Mathlib.Omega.{arith}
-use lib.Dec.{ltb}
+use lib.Bits.{bitAnd}
+use lib.Dec.{eqb}
 use lib.ListN.{length, getD}
+use borrow.Author.Tests.{eq-eqb, ne-eqb, eqb-true}
 use Rattle.xor.specs.Xor.{_⊕_}
 use Rattle.xor.specs.Runs.{changedBy, Beside, Put}
-use Rattle.xor.proofs.Cases.{by-equal}
-use Rattle.xor.proofs.Algebra.{zero-⊕, ⊕-zero, ⊕-assoc, ⊕-cancel}
+use Rattle.xor.specs.Sets.{count}
+use Rattle.xor.proofs.Cases.{by-test, by-equal, and-left}
+use Rattle.xor.proofs.Algebra.{⊕-zero, ⊕-cancel}
+use Rattle.xor.proofs.Sets.{any-some}
+use Rattle.bits.specs.Bit.{bit, IsLowest}
+use Rattle.bits.proofs.Bits.{bit-zero}
+use Rattle.bits.proofs.Masks.{clear-lowest}
 use Rattle.codes.specs.declared.Shape.{Shape}
-use Rattle.codes.specs.declared.Dependents.{Dependents}
-use Rattle.codes.specs.Shape.{cells, equations, cellNumber, stripeLength, WellFormed}
-use Rattle.codes.specs.Encoded.{parityCell, byteAt, isParity}
-use Rattle.codes.specs.Depends.{DependOn, WriteRight}
+use Rattle.codes.specs.Shape.{cells, equations, cellNumber, WellFormed}
+use Rattle.codes.specs.Geometry.{place}
+use Rattle.codes.specs.Encoded.{parityCell, byteAt, isParity, Solves}
+use Rattle.codes.specs.Depends.{unitOf, DependOn, WriteRight}
 use Rattle.codes.proofs.Ordered.{ordered}
 use Rattle.codes.proofs.Parity.{sum-same}
 use Rattle.codes.proofs.Positions.{cell-inside}
-use Rattle.codes.proofs.Places.{cells-apart, cell-ends}
-use Rattle.stripe.specs.Parts.{part, differs, Changed, FromCell}
+use Rattle.codes.proofs.Geometry.{place-inside, place-apart}
+use Rattle.codes.proofs.Units.{not-parity, unit-own, unit-parity, unit-data, unit-scaled}
+use Rattle.stripe.specs.Parts.{differs, Spread, FromCell}
 use Rattle.stripe.specs.Write.{Written, Depending}
 use Rattle.codes.proofs.Built.{built, built-long, built-at}
-use Rattle.stripe.proofs.Parts.{parts, part-own, part-other, part-none, point-other, not-parity, part-data, parts-solve, parts-own, parts-data, how-many}
 
-module _ (s : Shape) (w : WellFormed s) where
-  -- ---- one parity cell
-
-  -- where its run may be, for the leaf
-  pub part-fits : (q from : ℕ) (stripe bytes : List ℕ) (to : ℕ) → to ≡ parityCell s q * s .cell → q < equations s → FromCell s stripe from bytes
-      → (to + length bytes ≤ length stripe) × (from + length bytes ≤ length stripe) × Beside to from (length bytes)
-  part-fits q from stripe bytes to e l h = (
-    omega (arith, e, h .whole, h .long, cell-ends s w (parityCell s q) (ordered s w .inside q l)),
-    omega (arith, h .at, h .whole, h .long, cell-ends s w (h .cell) (h .inside)),
-    subst (λ (n : ℕ). Beside to from n) (sym (h .whole))
-        (⊎-elim (λ side. inl (omega (arith, e, h .at))) (λ side. inr (omega (arith, e, h .at))) (cells-apart s w (h .cell) (parityCell s q) (not-parity s w (h .cell) q (h .plain) l))),
-  )
-
-  pub part-added : (q from : ℕ) (old new bytes : List ℕ) (to n : ℕ) → to ≡ parityCell s q * s .cell → n ≡ s .cell → q < equations s
-      → Put old to n (changedBy old to from bytes) new → Changed s (λ t. part s q (differs old from bytes t)) old new
-  unfolding byteAt changedBy
-  part-added q from old new bytes to n e en l h = record {
-    long = h .long;
-    byte = λ k t lt. by-equal k (parityCell s q)
-        (λ z. ap (λ (i : ℕ). getD new (i + t) 0) (place k z) ∙ h .inner t (omega (arith, en))
-        ∙ ap₂ (λ (i y : ℕ). getD old (i + t) 0 ⊕ y) (sym (place k z)) (sym (ap (part s q (differs old from bytes t)) z ∙ part-own s q (differs old from bytes t) l)))
-        (λ z. h .outer (k * s .cell + t) (⊎-elim (λ side. inl (omega (arith, e))) (λ side. inr (omega (arith, e, en))) (cells-apart s w k (parityCell s q) z))
-        ∙ sym (⊕-zero (getD old (k * s .cell + t) 0)) ∙ ap (λ (y : ℕ). getD old (k * s .cell + t) 0 ⊕ y) (sym (part-other s q (differs old from bytes t) k z)));
-  }
-    where
-      place : (k : ℕ) → k ≡ parityCell s q → k * s .cell ≡ to
-      place k z = ap (λ (x : ℕ). x * s .cell) z ∙ sym e
-
-  pub part-gone : (q from : ℕ) (old bytes : List ℕ) → equations s ≤ q → Changed s (λ t. part s q (differs old from bytes t)) old old
-  part-gone q from old bytes l = record {
-    long = refl;
-    byte = λ k t lt. sym (⊕-zero (byteAt s old k t)) ∙ ap (λ (y : ℕ). byteAt s old k t ⊕ y) (sym (part-none s q (differs old from bytes t) k l));
-  }
-
-  -- ---- all steps
-
-  module _ (c from : ℕ) (at : from ≡ c * s .cell) (inside : c < cells s) (plain : isParity s c ≡ false) (d : Dependents) (h : DependOn s c d) (bytes : List ℕ) where
-    -- the data cell stays while parity is changed
-    stays : (q : ℕ) (old new : List ℕ) → Changed s (λ t. part s q (differs old from bytes t)) old new → (t : ℕ) → t < s .cell → differs new from bytes t ≡ differs old from bytes t
-    unfolding byteAt
-    stays q old new ch t lt =
-        ap (λ (x : ℕ). x ⊕ getD bytes t 0)
-        (ap (λ (i : ℕ). getD new (i + t) 0) at ∙ ch .byte c t lt ∙ ap (λ (y : ℕ). getD old (c * s .cell + t) 0 ⊕ y) (part-data s w q (differs old from bytes t) c plain)
-        ∙ ⊕-zero (getD old (c * s .cell + t) 0) ∙ ap (λ (i : ℕ). getD old (i + t) 0) (sym at))
-
-    module _ (old m₁ m₂ m₃ new : List ℕ) (long : length old ≡ stripeLength s)
-        (one : Changed s (λ t. part s (d .first) (differs old from bytes t)) old m₁) (two : Changed s (λ t. part s (d .second) (differs m₁ from bytes t)) m₁ m₂)
-        (three : Changed s (λ t. part s (d .third) (differs m₂ from bytes t)) m₂ m₃) (n : ℕ) (whole : n ≡ s .cell) (put : Put m₃ from n (λ t. getD bytes t 0) new) where
-      -- what is XORed in, byte by byte
-      F : ℕ → ℕ → ℕ
-      F t k = parts s c d (differs old from bytes t) k
-
-      own-byte : (t : ℕ) → byteAt s old c t ≡ getD old (from + t) 0
-      unfolding byteAt
-      own-byte t = ap (λ (i : ℕ). getD old (i + t) 0) (sym at)
-
-      same₁ : (t : ℕ) → t < s .cell → differs m₁ from bytes t ≡ differs old from bytes t
-      same₁ t lt = stays (d .first) old m₁ one t lt
-
-      same₂ : (t : ℕ) → t < s .cell → differs m₂ from bytes t ≡ differs old from bytes t
-      same₂ t lt = stays (d .second) m₁ m₂ two t lt ∙ same₁ t lt
-
-      -- parity before the data cell is written
-      third-byte : (k t : ℕ) → t < s .cell
-          → byteAt s m₃ k t ≡ byteAt s old k t ⊕ (part s (d .first) (differs old from bytes t) k ⊕ (part s (d .second) (differs old from bytes t) k ⊕ part s (d .third) (differs old from bytes t) k))
-      third-byte k t lt =
-          three .byte k t lt
-          ∙ ap₂ _⊕_ (two .byte k t lt ∙ ap₂ _⊕_ (one .byte k t lt) (ap (λ (x : ℕ). part s (d .second) x k) (same₁ t lt))) (ap (λ (x : ℕ). part s (d .third) x k) (same₂ t lt))
-          ∙ ⊕-assoc (byteAt s old k t ⊕ part s (d .first) (differs old from bytes t) k) (part s (d .second) (differs old from bytes t) k) (part s (d .third) (differs old from bytes t) k)
-          ∙ ⊕-assoc (byteAt s old k t) (part s (d .first) (differs old from bytes t) k) (part s (d .second) (differs old from bytes t) k ⊕ part s (d .third) (differs old from bytes t) k)
-
-      final : (k t : ℕ) → t < s .cell → byteAt s new k t ≡ byteAt s old k t ⊕ F t k
-      unfolding byteAt F
-      final k t lt =
-          by-equal k c
-          (λ e. ap (λ (i : ℕ). getD new (i + t) 0) (ap (λ (x : ℕ). x * s .cell) e ∙ sym at) ∙ put .inner t (omega (arith, whole))
-          ∙ sym (⊕-cancel (getD old (from + t) 0) (getD bytes t 0))
-          ∙ ap₂ _⊕_ (ap (λ (i : ℕ). getD old (i + t) 0) (at ∙ ap (λ (x : ℕ). x * s .cell) (sym e))) (sym (ap (parts s c d (differs old from bytes t)) e ∙ parts-own s w c inside plain d h (differs old from bytes t))))
-          (λ e. put .outer (k * s .cell + t) (⊎-elim (λ side. inl (omega (arith, at))) (λ side. inr (omega (arith, at, whole))) (cells-apart s w k c e))
-          ∙ third-byte k t lt
-          ∙ ap (λ (y : ℕ). getD old (k * s .cell + t) 0 ⊕ y) (sym (ap (λ (y : ℕ). y ⊕ (part s (d .first) (differs old from bytes t) k ⊕ (part s (d .second) (differs old from bytes t) k ⊕ part s (d .third) (differs old from bytes t) k))) (point-other s c (differs old from bytes t) k e) ∙ zero-⊕ _)))
-
-      pub written : Written s c old bytes new
-      unfolding F
-      written = record {
-        long = put .long ∙ three .long ∙ two .long ∙ one .long;
-        difference = built s F;
-        alone = record {
-          long = built-long s F;
-          own = λ t lt. built-at s F c inside t lt ∙ parts-own s w c inside plain d h (differs old from bytes t) ∙ ap (λ (x : ℕ). x ⊕ getD bytes t 0) (sym (own-byte t));
-          zeros = λ k lk p e t lt. built-at s F k lk t lt ∙ parts-data s w c inside plain d h (differs old from bytes t) k p e;
-          encoded = record {
-            holds = λ q lq t lt.
-                built-at s F (parityCell s q) (ordered s w .inside q lq) t lt ∙ parts-solve s w c inside plain d h (differs old from bytes t) q lq
-                ∙ sym (sum-same s q (λ k. byteAt s (built s F) k t) (F t) (λ k lk p. built-at s F k lk t lt));
-          };
-        };
-        sum = λ k lk t lt. final k t lt ∙ ap (λ (y : ℕ). byteAt s old k t ⊕ y) (sym (built-at s F k lk t lt));
-      }
-
-    -- and how many parity cells depend on it
-    pub depending : (n : ℕ) → n ≡ 1 + (cond (ltb (d .second) (equations s)) 1 0 + cond (ltb (d .third) (equations s)) 1 0) → Depending s c n
-    depending n e = record {
-      unit = parts s c d 1;
-      alone = record { own = parts-own s w c inside plain d h 1; zeros = λ k lk p z. parts-data s w c inside plain d h 1 k p z; holds = parts-solve s w c inside plain d h 1 };
-      size = e ∙ sym (how-many s w c inside plain d h);
-    }
+-- ---- where the runs are
 
 -- the data cell of a small write that is right
-pub write-from : (s : Shape) (n row column m from : ℕ) (stripe bytes : List ℕ) → WriteRight s n row column m → from ≡ cellNumber s row column * s .cell
+pub write-from : (s : Shape) (n row column m from : ℕ) (stripe bytes : List ℕ) → WriteRight s n row column m → from ≡ place s (cellNumber s row column)
     → length stripe ≡ n → length bytes ≡ m → FromCell s stripe from bytes
 write-from s n row column m from stripe bytes h at ls lb = record {
   formed = h .formed;
@@ -146,11 +48,161 @@ write-from s n row column m from stripe bytes h at ls lb = record {
   whole = lb ∙ h .whole;
 }
 
--- 1 or 0
-pub one-small : (b : Bool) → cond b 1 0 ≤ 1
-one-small true = omega arith
-one-small false = omega arith
+module _ (s : Shape) (from : ℕ) (stripe bytes : List ℕ) (h : FromCell s stripe from bytes) where
+  -- its run is inside a stripe as long
+  pub from-fits : (mid : List ℕ) → length mid ≡ length stripe → from + length bytes ≤ length mid
+  from-fits mid same = omega (arith, same, h .at, h .whole, h .long, place-inside s (h .formed) (h .cell) (h .inside))
 
--- its run is inside the stripe
-pub from-fits : (s : Shape) (from : ℕ) (stripe bytes : List ℕ) → FromCell s stripe from bytes → from + length bytes ≤ length stripe
-from-fits s from stripe bytes h = omega (arith, h .at, h .whole, h .long, cell-ends s (h .formed) (h .cell) (h .inside))
+  -- and beside that of a parity cell
+  pub part-fits : (mid : List ℕ) → length mid ≡ length stripe → (q to : ℕ) → to ≡ place s (parityCell s q) → q < equations s
+      → (to + length bytes ≤ length mid) × (from + length bytes ≤ length mid) × Beside to from (length bytes)
+  part-fits mid same q to e l = (
+    omega (arith, same, e, h .whole, h .long, place-inside s (h .formed) (parityCell s q) (ordered s (h .formed) .inside q l)),
+    from-fits mid same,
+    subst (λ (n : ℕ). Beside to from n) (sym (h .whole))
+        (⊎-elim (λ side. inl (omega (arith, e, h .at))) (λ side. inr (omega (arith, e, h .at))) (place-apart s (h .formed) (h .cell) (parityCell s q) (h .inside) (ordered s (h .formed) .inside q l) (not-parity s (h .cell) q (h .plain) l))),
+  )
+
+-- a run that is put into a cell leaves the other cells
+beside : (s : Shape) (w : WellFormed s) (c to n : ℕ) (f : ℕ → ℕ) (old new : List ℕ) → c < cells s → to ≡ place s c → n ≡ s .cell → Put old to n f new
+    → (k : ℕ) → k < cells s → k ≢ c → (t : ℕ) → t < s .cell → byteAt s new k t ≡ byteAt s old k t
+unfolding byteAt
+beside s w c to n f old new inside at whole put k lk other t lt =
+    put .outer (place s k + t) (⊎-elim (λ side. inl (omega (arith, at))) (λ side. inr (omega (arith, at, whole))) (place-apart s w k c lk inside other))
+
+-- ---- the loop over the set m: the parity cells of its equations that are not in rest are done
+
+pub record SpreadTo (s : Shape) (m rest : ℕ) (d : ℕ → ℕ) (old new : List ℕ) : Type 0 where
+  pub within : (q : ℕ) → bit q rest ≡ true → bit q m ≡ true
+  pub so : Spread s (λ q. bit q m && not (bit q rest)) d old new
+
+module _ (s : Shape) (m from : ℕ) (bytes old : List ℕ) (h : FromCell s old from bytes) where
+  abbrev d : ℕ → ℕ
+  d = differs old from bytes
+
+  pub spread-none : SpreadTo s m m d old old
+  spread-none = record {
+    within = λ q p. p;
+    so = record { long = refl; kept = record { same = λ k lk p t lt. refl }; added = λ q l t lt. sym (⊕-zero (byteAt s old (parityCell s q) t)) ∙ ap (λ (b : Bool). byteAt s old (parityCell s q) t ⊕ cond b (d t) 0) (sym (never (bit q m))) };
+  }
+    where
+      never : (b : Bool) → (b && not b) ≡ false
+      never true = refl
+      never false = refl
+
+  -- the lowest equation q that is still to come
+  module _ (rest q to : ℕ) (mid new : List ℕ) (lq : q < 64) (lowest : IsLowest 64 (λ k. bit k rest) q) (l : q < equations s) (at : to ≡ place s (parityCell s q)) (turn : SpreadTo s m rest d old mid)
+      (put : Put mid to (length bytes) (changedBy mid to from bytes) new) where
+    left : (r : ℕ) → bit r (bitAnd rest (rest - 1)) ≡ (bit r rest && not (eqb r q))
+    left = clear-lowest 64 rest q lowest lq
+
+    here : bit q rest ≡ true
+    here = lowest .passes lq
+
+    -- its own parity cell: not changed before, and the data cell is as it was
+    own : (t : ℕ) → t < s .cell → byteAt s new (parityCell s q) t ≡ byteAt s old (parityCell s q) t ⊕ d t
+    unfolding byteAt changedBy
+    own t lt =
+        ap (λ (i : ℕ). getD new (i + t) 0) (sym at)
+        ∙ put .inner t (omega (arith, h .whole))
+        ∙ ap₂ (λ (x y : ℕ). x ⊕ (y ⊕ getD bytes t 0))
+        (ap (λ (i : ℕ). getD mid (i + t) 0) at ∙ turn .so .added q l t lt ∙ ap₂ (λ (a b : Bool). getD old (place s (parityCell s q) + t) 0 ⊕ cond (a && not b) (d t) 0) (turn .within q here) here ∙ ⊕-zero (getD old (place s (parityCell s q) + t) 0))
+        (ap (λ (i : ℕ). getD mid (i + t) 0) (h .at) ∙ turn .so .kept .same (h .cell) (h .inside) (h .plain) t lt ∙ ap (λ (i : ℕ). getD old (i + t) 0) (sym (h .at)))
+
+    others : (k : ℕ) → k < cells s → k ≢ parityCell s q → (t : ℕ) → t < s .cell → byteAt s new k t ≡ byteAt s mid k t
+    others = beside s (h .formed) (parityCell s q) to (length bytes) (changedBy mid to from bytes) mid new (ordered s (h .formed) .inside q l) at (h .whole) put
+
+    pub spread-more : SpreadTo s m (bitAnd rest (rest - 1)) d old new
+    spread-more = record {
+      within = λ r p. turn .within r (and-left (bit r rest) (not (eqb r q)) (sym (left r) ∙ p));
+      so = record {
+        long = put .long ∙ turn .so .long;
+        kept = record { same = λ k lk p t lt. others k lk (not-parity s k q p l) t lt ∙ turn .so .kept .same k lk p t lt };
+        added = λ r lr t lt. by-equal r q
+            (λ e. ap (λ (i : ℕ). byteAt s new (parityCell s i) t) e ∙ own t lt ∙ ap₂ (λ (i : ℕ) (b : Bool). byteAt s old (parityCell s i) t ⊕ cond b (d t) 0) (sym e) (sym (done r e)))
+            (λ e. others (parityCell s r) (ordered s (h .formed) .inside r lr) (λ z. e (ordered s (h .formed) .once r q lr l z)) t lt ∙ turn .so .added r lr t lt
+            ∙ ap (λ (b : Bool). byteAt s old (parityCell s r) t ⊕ cond (bit r m && not b) (d t) 0) (sym (left r ∙ ap (λ (b : Bool). bit r rest && not b) (ne-eqb r q e) ∙ and-true (bit r rest))));
+      };
+    }
+      where
+        done : (r : ℕ) → r ≡ q → (bit r m && not (bit r (bitAnd rest (rest - 1)))) ≡ true
+        done r e = ap₂ (λ (a b : Bool). a && not b) (ap (λ (i : ℕ). bit i m) e ∙ turn .within q here) (left r ∙ ap₂ (λ (a b : Bool). a && not b) (ap (λ (i : ℕ). bit i rest) e ∙ here) (eq-eqb r q e))
+
+  pub spread-all : (rest : ℕ) (new : List ℕ) → rest ≡ 0 → SpreadTo s m rest d old new → Spread s (λ q. bit q m) d old new
+  spread-all rest new e turn = record {
+    long = turn .so .long;
+    kept = turn .so .kept;
+    added = λ q l t lt. turn .so .added q l t lt ∙ ap (λ (b : Bool). byteAt s old (parityCell s q) t ⊕ cond b (d t) 0) (ap (λ (b : Bool). bit q m && not b) (ap (bit q) e ∙ bit-zero q) ∙ and-true (bit q m));
+  }
+
+-- ---- what is written: the XOR with F t in byte t, where F t has the difference in the data cell, 0 in other data, and solves the equations
+
+module _ (s : Shape) (w : WellFormed s) (c : ℕ) (inside : c < cells s) (old bytes : List ℕ) (F : ℕ → ℕ → ℕ)
+    (own : (t : ℕ) → F t c ≡ byteAt s old c t ⊕ getD bytes t 0) (zeros : (t k : ℕ) → isParity s k ≡ false → k ≢ c → F t k ≡ 0) (solves : (t : ℕ) → Solves s (F t)) where
+  pub written-by : (new : List ℕ) → length new ≡ length old → ((k : ℕ) → k < cells s → (t : ℕ) → t < s .cell → byteAt s new k t ≡ byteAt s old k t ⊕ F t k) → Written s c old bytes new
+  written-by new long h = record {
+    long = long;
+    difference = built s F;
+    alone = record {
+      long = built-long s F;
+      own = λ t lt. built-at s w F c inside t lt ∙ own t;
+      zeros = λ k lk p n t lt. built-at s w F k lk t lt ∙ zeros t k p n;
+      encoded = record {
+        holds = λ q lq t lt.
+            built-at s w F (parityCell s q) (ordered s w .inside q lq) t lt ∙ solves t q lq ∙ sym (sum-same s q (λ k. byteAt s (built s F) k t) (F t) (λ k lk p. built-at s w F k lk t lt));
+      };
+    };
+    sum = λ k lk t lt. h k lk t lt ∙ ap (λ (x : ℕ). byteAt s old k t ⊕ x) (sym (built-at s w F k lk t lt));
+  }
+
+module _ (s : Shape) (w : WellFormed s) (c : ℕ) (plain : isParity s c ≡ false) (m : ℕ) (h : DependOn s c m) where
+  -- x where the unit of the set is 1
+  times : ℕ → ℕ → ℕ
+  times x k = cond (eqb (unitOf s c m k) 1) x 0
+
+  times-at : (x k : ℕ) (b : Bool) → unitOf s c m k ≡ cond b 1 0 → times x k ≡ cond b x 0
+  unfolding times
+  times-at x k true e = ap (λ (u : ℕ). cond (eqb u 1) x 0) e
+  times-at x k false e = ap (λ (u : ℕ). cond (eqb u 1) x 0) e
+
+  -- the set's parity cells, and then the data cell
+  pub written : c < cells s → (from n : ℕ) (bytes old mid new : List ℕ) → from ≡ place s c → n ≡ s .cell → Spread s (λ q. bit q m) (differs old from bytes) old mid → Put mid from n (λ t. getD bytes t 0) new
+      → Written s c old bytes new
+  unfolding times byteAt isParity
+  written inside from n bytes old mid new at whole parts put =
+      written-by s w c inside old bytes (λ t. times (differs old from bytes t))
+      (λ t. times-at (differs old from bytes t) c true (unit-own s w c m plain) ∙ ap (λ (i : ℕ). getD old (i + t) 0 ⊕ getD bytes t 0) at)
+      (λ t k p e. times-at (differs old from bytes t) k false (unit-data s w c m plain k p e))
+      (λ t. unit-scaled s c m (differs old from bytes t) (h .solves))
+      new (put .long ∙ parts .long) sum
+    where
+      x : ℕ → ℕ
+      x = differs old from bytes
+
+      others : (k : ℕ) → k < cells s → k ≢ c → (t : ℕ) → t < s .cell → byteAt s new k t ≡ byteAt s mid k t
+      others = beside s w c from n (λ t. getD bytes t 0) mid new inside at whole put
+
+      sum : (k : ℕ) → k < cells s → (t : ℕ) → t < s .cell → byteAt s new k t ≡ byteAt s old k t ⊕ times (x t) k
+      sum k lk t lt =
+          by-equal k c
+          (λ e. ap (λ (i : ℕ). getD new (i + t) 0) (ap (place s) e ∙ sym at) ∙ put .inner t (omega (arith, whole))
+          ∙ sym (⊕-cancel (getD old (from + t) 0) (getD bytes t 0))
+          ∙ ap₂ _⊕_ (ap (λ (i : ℕ). getD old (i + t) 0) (at ∙ ap (place s) (sym e))) (sym (ap (times (x t)) e ∙ times-at (x t) c true (unit-own s w c m plain))))
+          (λ e. others k lk e t lt ∙ by-test (isParity s k) parity
+          (λ p. parts .kept .same k lk p t lt ∙ sym (⊕-zero (byteAt s old k t)) ∙ ap (λ (y : ℕ). byteAt s old k t ⊕ y) (sym (times-at (x t) k false (unit-data s w c m plain k p e)))))
+        where
+          parity : isParity s k ≡ true → byteAt s mid k t ≡ byteAt s old k t ⊕ times (x t) k
+          parity p =
+              let found = any-some (equations s) (λ q. eqb (parityCell s q) k) p in
+              let is = eqb-true (parityCell s (found .0)) k (found .2) in
+              subst (λ (i : ℕ). byteAt s mid i t ≡ byteAt s old i t ⊕ times (x t) i) is
+              (parts .added (found .0) (found .1) t lt
+              ∙ ap (λ (y : ℕ). byteAt s old (parityCell s (found .0)) t ⊕ y) (sym (times-at (x t) (parityCell s (found .0)) (bit (found .0) m) (unit-parity s w c m plain (found .0) (found .1)))))
+
+  -- and how many parity cells depend on it
+  pub depending : (n : ℕ) → count (cells s) (λ k. isParity s k && not (eqb (unitOf s c m k) 0)) ≡ n → Depending s c n
+  depending n e = record {
+    unit = unitOf s c m;
+    alone = record { own = unit-own s w c m plain; zeros = λ k lk p z. unit-data s w c m plain k p z; holds = h .solves };
+    size = sym e;
+  }

@@ -2,18 +2,17 @@
 use mathlib.Core.Path.{_≡_}
 use mathlib.Core.Logic.{_≢_}
 use mathlib.Core.List.{List}
-use mathlib.Core.Bool.{false}
-use Prim.Native.Nat.{ℕ, _<_}
+use Prim.Native.Nat.{ℕ}
 use lib.ListN.{length}
 use Rattle.codes.specs.declared.Shape.{Shape}
-use Rattle.codes.specs.Shape.{cells}
-use Rattle.codes.specs.Encoded.{byteAt, isParity, Encoded}
+use Rattle.codes.specs.Encoded.{isParity, Encoded}
+use Rattle.codes.specs.Agree.{Agree}
 use Rattle.codes.specs.Refusals.{refusal, stripeFaults}
 
 -- new is the encoded stripe with the data cells of old
 pub record EncodingOf (s : Shape) (old new : List ℕ) : Type 0 where
   pub long : length new ≡ length old
-  pub kept : (c : ℕ) → c < cells s → isParity s c ≡ false → (t : ℕ) → t < s .cell → byteAt s new c t ≡ byteAt s old c t
+  pub kept : Agree s (isParity s) new old
   pub encoded : Encoded s new
 
 -- encode answers 0 and leaves the encoded stripe with the same data cells, or it answers the refusal and leaves every byte

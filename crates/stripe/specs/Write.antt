@@ -9,11 +9,11 @@ use lib.ListN.{length, getD}
 use Rattle.xor.specs.Xor.{_⊕_}
 use Rattle.xor.specs.Sets.{count}
 use Rattle.codes.specs.declared.Shape.{Shape}
+use Rattle.codes.specs.declared.Counted.{Counted}
 use Rattle.codes.specs.Shape.{cells, equations, cellNumber, stripeLength}
 use Rattle.codes.specs.Encoded.{byteAt, parityCell, sumOver, isParity, Encoded}
-use Rattle.codes.specs.Refusals.{refusal, writeFaults}
-use Rattle.stripe.specs.declared.WriteCount.{WriteCount}
-use Rattle.stripe.specs.declared.WriteCount.the-variants.{ParityCells, Refused}
+use Rattle.codes.specs.Refusals.{writeFaults}
+use Rattle.codes.specs.Answer.{Answers}
 
 -- d is the difference of the old bytes of cell c and the new ones, put alone into a stripe of zero data, and encoded
 pub record Difference (s : Shape) (c : ℕ) (old bytes d : List ℕ) : Type 0 where
@@ -30,7 +30,7 @@ pub record Written (s : Shape) (c : ℕ) (old bytes new : List ℕ) : Type 0 whe
   pub sum : (k : ℕ) → k < cells s → (t : ℕ) → t < s .cell → byteAt s new k t ≡ byteAt s old k t ⊕ byteAt s difference k t
 
 -- unit has 1 at cell c and zero in all other data, and is encoded: one value for each cell
-pub record Unit (s : Shape) (c : ℕ) (unit : ℕ → ℕ) : Type 0 where
+pub record Alone (s : Shape) (c : ℕ) (unit : ℕ → ℕ) : Type 0 where
   pub own : unit c ≡ 1
   pub zeros : (k : ℕ) → k < cells s → isParity s k ≡ false → k ≢ c → unit k ≡ 0
   pub holds : (q : ℕ) → q < equations s → unit (parityCell s q) ≡ sumOver s q unit
@@ -38,23 +38,11 @@ pub record Unit (s : Shape) (c : ℕ) (unit : ℕ → ℕ) : Type 0 where
 -- n parity cells depend on cell c: those that are not 0 where 1 is put alone at c and encoded
 pub record Depending (s : Shape) (c n : ℕ) : Type 0 where
   pub unit : ℕ → ℕ
-  pub alone : Unit s c unit
+  pub alone : Alone s c unit
   pub size : n ≡ count (cells s) (λ k. isParity s k && not (eqb (unit k) 0))
 
--- the refusal number that an answer gives; 0 where it gives a count
-abbrev pub writeNumber : WriteCount → ℕ
-writeNumber (ParityCells n) = 0
-writeNumber (Refused number) = number
-
--- an answer that counts the parity cells that depend on cell c
-pub record CountsDepending (s : Shape) (c : ℕ) (answer : WriteCount) : Type 0 where
-  pub cells : ℕ
-  pub says : answer ≡ ParityCells cells
-  pub depending : Depending s c cells
-
--- a small write leaves the stripe so written and answers the count, or it answers the refusal and leaves every byte
-pub record Writes (s : Shape) (row column : ℕ) (bytes old : List ℕ) (answer : WriteCount) (new : List ℕ) : Type 0 where
-  pub number : writeNumber answer ≡ refusal (writeFaults s (length old) row column (length bytes))
-  pub refused : writeNumber answer ≢ 0 → new ≡ old
-  pub count : writeNumber answer ≡ 0 → CountsDepending s (cellNumber s row column) answer
-  pub done : writeNumber answer ≡ 0 → Written s (cellNumber s row column) old bytes new
+-- a small write leaves the stripe so written and answers how many parity cells depend on the position, or it answers the refusal and leaves every byte
+abbrev pub Writes : Shape → ℕ → ℕ → List ℕ → List ℕ → Counted → List ℕ → Type 0
+Writes s row column bytes old answer new =
+    Answers (writeFaults s (length old) row column (length bytes)) old new
+    (λ n. Written s (cellNumber s row column) old bytes new × Depending s (cellNumber s row column) n) answer

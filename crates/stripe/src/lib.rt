@@ -1,30 +1,19 @@
 // The calls on a lent stripe. Each takes any numbers and any bytes: what can't be done is refused by its number, with every byte as it was.
 ghost use mathlib.Core.Path.{_≡_};
-ghost use Prim.Native.Nat.{_+_, _<_};
+ghost use mathlib.Core.Bool.{true};
+ghost use Prim.Native.Nat.{ℕ, _<_};
+ghost use lib.Count.{ones};
 ghost use lib.ListN.{length};
-ghost use mathlib.Core.Bool.{cond};
-ghost use lib.Dec.{ltb};
+ghost use Rattle.bits.specs.Bit.{bit};
 ghost use Rattle.codes.specs.Shape.{equations, cellNumber, stripeLength, WellFormed};
 ghost use Rattle.codes.specs.Depends.{WriteRight};
 ghost use Rattle.codes.specs.Encoded.{brokenEquations};
 ghost use Rattle.stripe.specs.Encode.{EncodingOf, Encodes};
 ghost use Rattle.stripe.specs.Broken.{Counts};
-ghost use Rattle.stripe.specs.Parts.{part, differs, Changed, FromCell};
+ghost use Rattle.stripe.specs.Parts.{differs, Spread, FromCell};
 ghost use Rattle.stripe.specs.Write.{Written, Depending, Writes};
-use codes::Dependents;
+use codes::Counted;
 use codes::Shape;
-
-// What broken answers: how many equations fail, or a refusal number.
-pub enum BrokenCount {
-    Equations(usize),
-    Refused(usize),
-}
-
-// What a small write answers: how many parity cells depend on the position, or a refusal number.
-pub enum WriteCount {
-    ParityCells(usize),
-    Refused(usize),
-}
 
 // Sets every parity cell, equation by equation: what a later equation sums has been set by then.
 fn set_parities(shape: Shape, stripe: &mut [u8])
@@ -71,42 +60,35 @@ fn count_broken(shape: Shape, stripe: &[u8]) -> usize
 }
 
 // Broken: how many equations fail in at least one byte. It only reads. Refusals 1, 2, 4 and 5.
-pub fn broken(shape: Shape, stripe: &[u8]) -> BrokenCount
+pub fn broken(shape: Shape, stripe: &[u8]) -> Counted
     ensures { λ r. ⌜ Counts shape (now (stripe .entry)) r ⌝ }
 {
     let refused = codes::stripe_refusal(shape, stripe.len());
     if refused != 0 {
-        return BrokenCount::Refused(refused);
+        return Counted::Refused(refused);
     }
-    BrokenCount::Equations(count_broken(shape, stripe))
+    Counted::Count(count_broken(shape, stripe))
 }
 
-// XORs how the bytes of the data cell at `from` differ from the new ones into the parity cell of equation q, if there is such an equation.
-fn add_part(shape: Shape, stripe: &mut [u8], q: usize, from: usize, new: &[u8])
-    requires { ⌜ FromCell shape (now stripe) from (now new) ⌝ }
-    ensures { λ _. ⌜ Changed shape (λ t. part shape q (differs (now (stripe .entry)) from (now (new .entry)) t)) (now (stripe .entry)) (now (stripe .exit)) ⌝ }
+// XORs how the bytes of the data cell at `from` differ from the new ones into the parity cell of every equation of a set.
+fn spread(shape: Shape, stripe: &mut [u8], set: u64, from: usize, new: &[u8])
+    requires { ⌜ FromCell shape (now stripe) from (now new) × ((q : ℕ) → bit q set ≡ true → q < equations shape) ⌝ }
+    ensures { λ _. ⌜ Spread shape (λ q. bit q set) (differs (now (stripe .entry)) from (now (new .entry))) (now (stripe .entry)) (now (stripe .exit)) ⌝ }
 {
-    if codes::equation_count(shape) <= q {
-        return;
+    let mut rest = set;
+    while rest != 0 {
+        let q = bits::lowest_bit(rest) as usize;
+        let to = codes::parity_place(shape, q);
+        xor::add_difference(stripe, to, from, new);
+        rest = rest & (rest - 1);
     }
-    let to = codes::parity_place(shape, q);
-    xor::add_difference(stripe, to, from, new);
 }
 
-// 1 where equation q is there, of n in all, and 0 where it isn't.
-fn one_below(q: usize, n: usize) -> usize
-    ensures { λ r. ⌜ r ≡ cond (ltb q n) 1 0 ⌝ }
+// How many equations a set has.
+fn count_members(set: u64) -> usize
+    ensures { λ r. ⌜ r ≡ ones set ⌝ }
 {
-    if q < n { 1 } else { 0 }
-}
-
-// How many of the three equations are there: the first always is.
-fn count_depending(shape: Shape, d: Dependents) -> usize
-    requires { ⌜ WellFormed shape ⌝ }
-    ensures { λ r. ⌜ r ≡ 1 + (cond (ltb (d .second) (equations shape)) 1 0 + cond (ltb (d .third) (equations shape)) 1 0) ⌝ }
-{
-    let n = codes::equation_count(shape);
-    1 + (one_below(d.second, n) + one_below(d.third, n))
+    u64::count_ones(set) as usize
 }
 
 // Writes new bytes into a data cell and brings the parity cells that depend on it up to date. Answers how many these are.
@@ -115,22 +97,20 @@ fn write_cell(shape: Shape, stripe: &mut [u8], row: usize, column: usize, new: &
     ensures { λ r. ⌜ Written shape (cellNumber shape row column) (now (stripe .entry)) (now (new .entry)) (now (stripe .exit)) × Depending shape (cellNumber shape row column) r ⌝ }
 {
     let from = codes::cell_place(shape, row, column);
-    let d = codes::dependents_of(shape, row, column);
-    add_part(shape, stripe, d.first, from, new);
-    add_part(shape, stripe, d.second, from, new);
-    add_part(shape, stripe, d.third, from, new);
+    let set = codes::dependents_of(shape, row, column);
+    spread(shape, stripe, set, from, new);
     xor::put_run(stripe, from, new);
-    count_depending(shape, d)
+    count_members(set)
 }
 
 // Small write: puts new bytes into a data cell, and into the parity cells that depend on it what the equations say.
 // Answers how many parity cells depend on the position, or refusal 1, 2, 4, 5, 6, 7 or 8.
-pub fn write(shape: Shape, stripe: &mut [u8], row: usize, column: usize, new: &[u8]) -> WriteCount
+pub fn write(shape: Shape, stripe: &mut [u8], row: usize, column: usize, new: &[u8]) -> Counted
     ensures { λ r. ⌜ Writes shape row column (now (new .entry)) (now (stripe .entry)) r (now (stripe .exit)) ⌝ }
 {
     let number = codes::write_refusal(shape, stripe.len(), row, column, new.len());
     if number != 0 {
-        return WriteCount::Refused(number);
+        return Counted::Refused(number);
     }
-    WriteCount::ParityCells(write_cell(shape, stripe, row, column, new))
+    Counted::Count(write_cell(shape, stripe, row, column, new))
 }

@@ -9,7 +9,7 @@ write-refusal-requires : tie.Need-write-refusal-requires
 write-refusal-requires c κs = search needs
 
 returns : tie.Need-returns
-returns c = record { number = c .before .write-refusal .ensures; refused = λ n. refl; count = λ z. absurd (c .if1 .taken z); done = λ z. absurd (c .if1 .taken z) }
+returns c = (c .before .write-refusal .ensures, c .if1 .taken, refl)
 
 write-cell-requires : tie.Need-write-cell-requires
 write-cell-requires c κs = write-accepted _ _ _ _ _ (sym (c .before .before .write-refusal .ensures) ∙ c .before .if1 .left)
@@ -18,12 +18,7 @@ same-length : tie.Need-same-length
 same-length c = search needs
 
 returns-2 : tie.Need-returns-2
-returns-2 c = record {
-  number = sym (c .before .before .before .before .if1 .left) ∙ c .before .before .before .before .before .write-refusal .ensures;
-  refused = λ n. absurd (n refl);
-  count = λ z. record { cells = _; says = refl; depending = c .before .before .write-cell .ensures .1 };
-  done = λ z. c .before .before .write-cell .ensures .0;
-}
+returns-2 c = (sym (c .before .before .before .before .if1 .left) ∙ c .before .before .before .before .before .write-refusal .ensures, c .before .before .write-cell .ensures)
 
 pub write-spec : {M : Type 1} → statement M
 write-spec =

@@ -1,7 +1,9 @@
--- `stripe::write_cell` meets its contract. The data cell stays until its difference is in all three parts, and is written last.
-use mathlib.Core.Path.{refl, _∙_}
+-- `stripe::write_cell` meets its contract. The data cell stays until its difference is in the parity cells that depend on it, and is written last.
+use mathlib.Core.Path.{refl, sym, _∙_}
+use borrow.Author.Needs.{needs}
 use Rattle.codes.specs.Shape.{cellNumber}
 use Rattle.codes.proofs.Positions.{cell-inside}
+use Rattle.codes.proofs.Units.{depend-count}
 use Rattle.stripe.proofs.Writing.{write-from, from-fits, written, depending}
 use Rattle.stripe.proofs.write_cell.Statement.{statement}
 use Rattle.stripe.proofs.write_cell.Tie as tie
@@ -12,32 +14,31 @@ cell-place-requires c κs = (c .before .before .pre .formed, c .before .before .
 dependents-of-requires : tie.Need-dependents-of-requires
 dependents-of-requires c κs = (c .before .before .before .pre .formed, c .before .before .before .pre .cell)
 
-add-part-requires : tie.Need-add-part-requires
-add-part-requires c κs = write-from (c .before .before .before .before .before .args .shape) _ (c .before .before .before .before .before .args .row) (c .before .before .before .before .before .args .column) _ _ _ _ (c .before .before .before .before .before .pre) (c .before .before .cell-place .ensures) (refl) refl
-
-add-part-requires-2 : tie.Need-add-part-requires-2
-add-part-requires-2 c κs = write-from (c .before .before .before .before .before .before .before .before .before .args .shape) _ (c .before .before .before .before .before .before .before .before .before .args .row) (c .before .before .before .before .before .before .before .before .before .args .column) _ _ _ _ (c .before .before .before .before .before .before .before .before .before .pre) (c .before .before .before .before .before .before .cell-place .ensures) (c .before .before .before .add-part .ensures .long) refl
-
-add-part-requires-3 : tie.Need-add-part-requires-3
-add-part-requires-3 c κs = write-from (c .before .before .before .before .before .before .before .before .before .before .before .before .before .args .shape) _ (c .before .before .before .before .before .before .before .before .before .before .before .before .before .args .row) (c .before .before .before .before .before .before .before .before .before .before .before .before .before .args .column) _ _ _ _ (c .before .before .before .before .before .before .before .before .before .before .before .before .before .pre) (c .before .before .before .before .before .before .before .before .before .before .cell-place .ensures) (c .before .before .before .add-part2 .ensures .long ∙ c .before .before .before .before .before .before .before .add-part .ensures .long) refl
+spread-requires : tie.Need-spread-requires
+spread-requires c κs =
+    let start = c .before .before .before .before .before in
+    (write-from (start .args .shape) _ (start .args .row) (start .args .column) _ _ _ _ (start .pre) (c .before .before .cell-place .ensures) refl refl, c .before .dependents-of .ensures .below)
 
 put-run-requires : tie.Need-put-run-requires
-put-run-requires c κs = from-fits (c .before .before .before .before .before .before .before .before .before .before .before .before .before .before .before .before .before .args .shape) (c .before .before .before .before .before .before .before .before .before .before .before .before .before .before .cell-place .result) (c .before .before .before .add-part3 .last .1 .0) (c .before .before .before .before .before .before .before .before .before .before .before .before .before .before .before .before .before .args .new .now) (write-from (c .before .before .before .before .before .before .before .before .before .before .before .before .before .before .before .before .before .args .shape) _ (c .before .before .before .before .before .before .before .before .before .before .before .before .before .before .before .before .before .args .row) (c .before .before .before .before .before .before .before .before .before .before .before .before .before .before .before .before .before .args .column) _ _ _ _ (c .before .before .before .before .before .before .before .before .before .before .before .before .before .before .before .before .before .pre) (c .before .before .before .before .before .before .before .before .before .before .before .before .before .before .cell-place .ensures) (c .before .before .before .add-part3 .ensures .long ∙ c .before .before .before .before .before .before .before .add-part2 .ensures .long ∙ c .before .before .before .before .before .before .before .before .before .before .before .add-part .ensures .long) refl)
+put-run-requires c κs =
+    let start = c .before .before .before .before .before .before .before .before .before in
+    from-fits _ _ _ _ (write-from (start .args .shape) _ (start .args .row) (start .args .column) _ _ (start .args .stripe .now) (start .args .new .now) (start .pre) (c .before .before .before .before .before .before .cell-place .ensures) refl refl) (c .before .before .before .spread .last .1 .0) (c .before .before .before .spread .ensures .long)
 
-count-depending-requires : tie.Need-count-depending-requires
-count-depending-requires c κs = c .before .before .before .before .before .before .before .before .before .before .before .before .before .before .before .before .before .before .before .before .pre .formed
+count-members-requires : tie.Need-count-members-requires
+count-members-requires c κs = search needs
 
 same-length : tie.Need-same-length
-same-length c = c .before .before .before .put-run .ensures .long ∙ c .before .before .before .before .before .before .before .add-part3 .ensures .long ∙ c .before .before .before .before .before .before .before .before .before .before .before .add-part2 .ensures .long ∙ c .before .before .before .before .before .before .before .before .before .before .before .before .before .before .before .add-part .ensures .long
+same-length c = c .before .before .before .put-run .ensures .long ∙ c .before .before .before .before .before .before .before .spread .ensures .long
 
 returns : tie.Need-returns
 returns c =
-    let a = c .before .before .before .before .before .before .before .before .before .before .before .before .before .before .before .before .before .before .before .before .before .args in
-    let right = c .before .before .before .before .before .before .before .before .before .before .before .before .before .before .before .before .before .before .before .before .before .pre in
-    let inside = cell-inside (a .shape) (right .formed) (a .row) (a .column) (right .cell .low) (right .cell .right) in (
-      written (a .shape) (right .formed) (cellNumber (a .shape) (a .row) (a .column)) (c .before .before .before .before .before .before .before .before .before .before .before .before .before .before .before .before .before .before .cell-place .result) (c .before .before .before .before .before .before .before .before .before .before .before .before .before .before .before .before .before .before .cell-place .ensures) inside (right .cell .plain) (c .before .before .before .before .before .before .before .before .before .before .before .before .before .before .before .before .before .dependents-of .result) (c .before .before .before .before .before .before .before .before .before .before .before .before .before .before .before .before .before .dependents-of .ensures) (a .new .now)
-          (a .stripe .now) _ _ _ _ (right .long) (c .before .before .before .before .before .before .before .before .before .before .before .before .before .before .before .add-part .ensures) (c .before .before .before .before .before .before .before .before .before .before .before .add-part2 .ensures) (c .before .before .before .before .before .before .before .add-part3 .ensures) _ (right .whole) (c .before .before .before .put-run .ensures),
-      depending (a .shape) (right .formed) (cellNumber (a .shape) (a .row) (a .column)) (c .before .before .before .before .before .before .before .before .before .before .before .before .before .before .before .before .before .before .cell-place .result) (c .before .before .before .before .before .before .before .before .before .before .before .before .before .before .before .before .before .before .cell-place .ensures) inside (right .cell .plain) (c .before .before .before .before .before .before .before .before .before .before .before .before .before .before .before .before .before .dependents-of .result) (c .before .before .before .before .before .before .before .before .before .before .before .before .before .before .before .before .before .dependents-of .ensures) (a .new .now) _ (c .count-depending .ensures),
+    let start = c .before .before .before .before .before .before .before .before .before .before .before .before .before in
+    let cell = cellNumber (start .args .shape) (start .args .row) (start .args .column) in
+    let set = c .before .before .before .before .before .before .before .before .before .dependents-of in
+    let plain = start .pre .cell .plain in (
+      written (start .args .shape) (start .pre .formed) cell plain (set .result) (set .ensures) (cell-inside (start .args .shape) (start .pre .formed) (start .args .row) (start .args .column) (start .pre .cell .low) (start .pre .cell .right))
+          _ _ (start .args .new .now) (start .args .stripe .now) _ _ (c .before .before .before .before .before .before .before .before .before .before .cell-place .ensures) (start .pre .whole) (c .before .before .before .before .before .before .before .spread .ensures) (c .before .before .before .put-run .ensures),
+      depending (start .args .shape) (start .pre .formed) cell plain (set .result) (set .ensures) _ (depend-count (start .args .shape) (start .pre .formed) cell (set .result) plain (set .ok) (set .ensures) ∙ sym (c .count-members .ensures)),
     )
 
 pub write-cell-spec : {M : Type 1} → statement M
@@ -46,10 +47,8 @@ write-cell-spec =
     (tie.spec
     cell-place-requires
     dependents-of-requires
-    add-part-requires
-    add-part-requires-2
-    add-part-requires-3
+    spread-requires
     put-run-requires
-    count-depending-requires
+    count-members-requires
     same-length
     returns)
