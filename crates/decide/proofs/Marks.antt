@@ -15,6 +15,7 @@ use Rattle.xor.proofs.Cases.{by-equal, either, or-left, or-right, same-test}
 use Rattle.xor.proofs.Sets.{any-at, any-some}
 use Rattle.codes.specs.declared.Shape.{Shape}
 use Rattle.codes.specs.Shape.{rows, columns, cells, cellNumber, WellFormed}
+use Rattle.codes.specs.Geometry.{cellOf}
 use Rattle.codes.proofs.Shapes.{rows-low, cells-high}
 use Rattle.codes.proofs.Positions.{column-is, cell-is, cell-inside, number-is}
 use Rattle.decide.specs.Solver.{lostIn}
@@ -28,8 +29,8 @@ pub record Marked (marks : ℕ → ℕ → Bool) (k : ℕ) (map : List Bool) : T
   pub is : (c : ℕ) → lostIn map c ≡ any k (λ j. marks j c)
 
 -- a turn marks the cell that the list names there
-abbrev pub ofList : List ℕ → ℕ → ℕ → Bool
-ofList numbers j c = eqb (getD numbers j 0) c
+abbrev pub ofList : Shape → List ℕ → ℕ → ℕ → Bool
+ofList s numbers j c = eqb (cellOf s (getD numbers j 0)) c
 
 -- a turn marks the cells of row j in columns a and b, where there are n rows
 abbrev pub ofColumns : ℕ → ℕ → ℕ → ℕ → ℕ → Bool
@@ -68,9 +69,9 @@ module _ (marks : ℕ → ℕ → Bool) where
 
 -- ---- after the last turn
 
-pub named-all : (numbers : List ℕ) (k : ℕ) (map : List Bool) → k ≡ length numbers → Marked (ofList numbers) k map → (c : ℕ) → lostIn map c ≡ named numbers c
+pub named-all : (s : Shape) (numbers : List ℕ) (k : ℕ) (map : List Bool) → k ≡ length numbers → Marked (ofList s numbers) k map → (c : ℕ) → lostIn map c ≡ named s numbers c
 unfolding named
-named-all numbers k map e h c = h .is c ∙ ap (λ (m : ℕ). any m (λ j. ofList numbers j c)) e
+named-all s numbers k map e h c = h .is c ∙ ap (λ (m : ℕ). any m (λ j. ofList s numbers j c)) e
 
 module _ (s : Shape) (w : WellFormed s) (n : ℕ) (rowsAre : n ≡ rows s) where
   -- a cell by its row and column has a place in the map

@@ -9,12 +9,13 @@ use lib.ListN.{length, getD}
 use Rattle.xor.specs.Sets.{any}
 use Rattle.codes.specs.declared.Shape.{Shape}
 use Rattle.codes.specs.Shape.{stripeLength}
+use Rattle.codes.specs.Geometry.{cellOf}
 use Rattle.codes.specs.Encoded.{Encoded}
 use Rattle.codes.specs.Agree.{Agree}
 
--- whether a list names cell c
-unfoldable pub named : List ℕ → ℕ → Bool
-named numbers c = any (length numbers) (λ k. eqb (getD numbers k 0) c)
+-- whether a caller's list names cell c
+unfoldable pub named : Shape → List ℕ → ℕ → Bool
+named s numbers c = any (length numbers) (λ k. eqb (cellOf s (getD numbers k 0)) c)
 
 -- x is an encoded stripe: bytes, as many as the shape says, in which every equation holds
 pub record EncodedStripe (s : Shape) (x : List ℕ) : Type 0 where

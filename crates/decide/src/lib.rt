@@ -19,21 +19,22 @@ pub enum Decided {
     Open,
 }
 
-// The map of the cells that a list names.
+// The map of the cells that a caller's list names.
 pub fn mark_cells(shape: Shape, lost: &[usize]) -> [bool; CELLS]
     requires { ⌜ WellFormed shape × ((k : ℕ) → k < length (now lost) → getD (now lost) k 0 < cells shape) ⌝ }
-    ensures { λ r. ⌜ ((c : ℕ) → lostIn r c ≡ named (now (lost .entry)) c) ⌝ }
+    ensures { λ r. ⌜ ((c : ℕ) → lostIn r c ≡ named shape (now (lost .entry)) c) ⌝ }
 {
     let mut map = [false; CELLS];
     let mut k = 0;
     while k < lost.len() {
-        map[lost[k]] = true;
+        let c = codes::cell_of(shape, lost[k]);
+        map[c] = true;
         k += 1;
     }
     map
 }
 
-// The map of the cells in columns a and b.
+// The map of the cells in columns a and b, as the equations number them.
 pub fn mark_columns(shape: Shape, a: usize, b: usize) -> [bool; CELLS]
     requires { ⌜ WellFormed shape × (a < columns shape) × (b < columns shape) ⌝ }
     ensures { λ r. ⌜ ((c : ℕ) → c < cells shape → lostIn r c ≡ inColumns shape a b c) ⌝ }

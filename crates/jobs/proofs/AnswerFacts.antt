@@ -23,7 +23,7 @@ use Rattle.jobs.proofs.OneAnswer.{carried-this}
 same-long : (s : Shape) (lost old : List ℕ) (answer : ℕ) (new : List ℕ) → RebuildsCells s lost old answer new → length new ≡ length old
 same-long s lost old answer new r =
     by-equal (refusal (cellsFaults s (length old) lost)) 0
-    (λ e. decided-long s (named lost) old answer new (cells-accepted s (length old) lost e .1) (r .decides e, r .kept))
+    (λ e. decided-long s (named s lost) old answer new (cells-accepted s (length old) lost e .1) (r .decides e, r .kept))
     (λ n. ap (λ (x : List ℕ). length x) (r .kept (λ z. n (sym (r .refused n) ∙ z))))
 
 bytes-most : (answer : ℕ) (stripe : List ℕ) → length stripe ≤ mostStripe → length (answerBytes answer stripe) ≤ 7 + mostStripe

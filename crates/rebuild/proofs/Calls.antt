@@ -9,7 +9,7 @@ use Rattle.xor.proofs.Cases.{by-equal}
 use Rattle.codes.specs.declared.Shape.{Shape}
 use Rattle.codes.specs.Shape.{cells, stripeLength}
 use Rattle.codes.specs.Refusals.{refusal, columnsFaults}
-use Rattle.codes.specs.Agree.{inColumns}
+use Rattle.codes.specs.Agree.{callersColumns}
 use Rattle.rebuild.specs.Rebuild.{Decides, Rebuilds, RebuildsColumns}
 use Rattle.rebuild.proofs.Deciding.{kept, zero-done, lost-same}
 use Rattle.rebuild.proofs.Never.{columns-never}
@@ -25,7 +25,7 @@ rebuilds-decided s lost lost′ wrong old answer new z same h = record {
 }
 
 -- of columns, which are never undetermined
-pub rebuilds-columns : (s : Shape) (a b : ℕ) (old : List ℕ) (answer : ℕ) (new : List ℕ) → Rebuilds s (inColumns s a b) (refusal (columnsFaults s (length old) a b)) old answer new
+pub rebuilds-columns : (s : Shape) (a b : ℕ) (old : List ℕ) (answer : ℕ) (new : List ℕ) → Rebuilds s (callersColumns s a b) (refusal (columnsFaults s (length old) a b)) old answer new
     → RebuildsColumns s a b old answer new
 rebuilds-columns s a b old answer new h = record { rebuilds = h; never = columns-never s a b old answer new h }
 

@@ -18,12 +18,14 @@ use Rattle.codes.specs.Refusals.{refusal, cellsFaults, columnsFaults}
 use Rattle.codes.proofs.Refused.{cells-accepted, columns-accepted}
 use Rattle.codes.proofs.Ordered.{ordered}
 use Rattle.codes.proofs.Parity.{same-bytes}
-use Rattle.codes.specs.Agree.{Agree, inColumns}
+use Rattle.codes.specs.Agree.{Agree, callersColumns}
 use Rattle.decide.specs.Survivors.{Undetermined, Restores, named}
 use Rattle.rebuild.specs.Rebuild.{Decides, RebuildsCells, RebuildsColumns}
 use Rattle.equation.specs.Window.{bytesAt}
 use Rattle.decide.proofs.Stripes.{two-solutions}
 use Rattle.rebuild.proofs.OneAnswer.{restored-one}
+use Rattle.codes.specs.Geometry.{columnOf}
+use Rattle.codes.proofs.Geometry.{column-there}
 use Rattle.decide.proofs.Determined.{columns-determined}
 use Rattle.rebuild.proofs.Deciding.{eleven, twelve, done}
 
@@ -35,16 +37,16 @@ come-back s w lost determined old x restores answer new h =
     let did = done s lost old answer new h (λ e. determined (eleven s lost old answer new h e)) (λ e. twelve s lost old answer new h e x restores) in
     (did .0, restored-one s w lost determined old new x (did .1) restores)
 
-pub cells-come-back : (s : Shape) (numbers old x : List ℕ) → refusal (cellsFaults s (length old) numbers) ≡ 0 → (Undetermined s (named numbers) → ⊥)
-    → Restores s (named numbers) old x → (answer : ℕ) (new : List ℕ) → RebuildsCells s numbers old answer new → (answer ≡ 0) × (new ≡ x)
+pub cells-come-back : (s : Shape) (numbers old x : List ℕ) → refusal (cellsFaults s (length old) numbers) ≡ 0 → (Undetermined s (named s numbers) → ⊥)
+    → Restores s (named s numbers) old x → (answer : ℕ) (new : List ℕ) → RebuildsCells s numbers old answer new → (answer ≡ 0) × (new ≡ x)
 cells-come-back s numbers old x right determined restores answer new h =
-    come-back s (cells-accepted s (length old) numbers right .0) (named numbers) determined old x restores answer new (h .decides right)
+    come-back s (cells-accepted s (length old) numbers right .0) (named s numbers) determined old x restores answer new (h .decides right)
 
 pub columns-come-back : (s : Shape) (a b : ℕ) (old x : List ℕ) → refusal (columnsFaults s (length old) a b) ≡ 0
-    → Restores s (inColumns s a b) old x → (answer : ℕ) (new : List ℕ) → RebuildsColumns s a b old answer new → (answer ≡ 0) × (new ≡ x)
+    → Restores s (callersColumns s a b) old x → (answer : ℕ) (new : List ℕ) → RebuildsColumns s a b old answer new → (answer ≡ 0) × (new ≡ x)
 columns-come-back s a b old x right restores answer new h =
     let formed = columns-accepted s (length old) a b right in
-    come-back s (formed .0) (inColumns s a b) (columns-determined s (formed .0) a b (formed .2) (formed .3)) old x restores answer new (h .rebuilds .decides right)
+    come-back s (formed .0) (callersColumns s a b) (columns-determined s (formed .0) (columnOf s a) (columnOf s b) (column-there s a (formed .2)) (column-there s b (formed .3))) old x restores answer new (h .rebuilds .decides right)
 
 -- ---- undetermined is a matter of the equations and the lost cells, whatever the cell size
 
@@ -104,7 +106,7 @@ undetermined-any-cell s w n low high lost u =
 -- ---- a list that names no cell
 
 -- every cell survives
-all-survive : (s : Shape) → WellFormed s → (x y : List ℕ) → length x ≡ stripeLength s → length y ≡ stripeLength s → Agree s (named []) x y → x ≡ y
+all-survive : (s : Shape) → WellFormed s → (x y : List ℕ) → length x ≡ stripeLength s → length y ≡ stripeLength s → Agree s (named s []) x y → x ≡ y
 unfolding named any
 all-survive s w x y lx ly agree = same-bytes s w x y lx ly (λ c l. agree .same c l refl)
 
@@ -115,7 +117,7 @@ empty-list s old right bytes answer new h = (same, λ broken. by-equal answer 12
     formed : WellFormed s × (length old ≡ stripeLength s)
     formed = let accepted = cells-accepted s (length old) [] right in (accepted .0, accepted .1)
 
-    determined : Undetermined s (named []) → ⊥
+    determined : Undetermined s (named s []) → ⊥
     determined u = u .differ (all-survive s (formed .0) (u .one) (u .other) (u .oneIs .long) (u .otherIs .long) (u .agree))
 
     same : Encoded s old → (answer ≡ 0) × (new ≡ old)
@@ -126,5 +128,5 @@ empty-list s old right bytes answer new h = (same, λ broken. by-equal answer 12
     kept : answer ≢ 12 → Encoded s old
     kept n =
         let d = h .decides right in
-        let did = done s (named []) old answer new d (λ e. determined (eleven s (named []) old answer new d e)) n .1 in
+        let did = done s (named s []) old answer new d (λ e. determined (eleven s (named s []) old answer new d e)) n .1 in
         subst (Encoded s) (sym (all-survive s (formed .0) old new (formed .1) (did .is .long) (did .agree))) (did .is .encoded)

@@ -8,24 +8,24 @@ use Rattle.xor.proofs.Cases.{by-equal}
 use Rattle.codes.specs.declared.Shape.{Shape}
 use Rattle.codes.specs.Refusals.{refusal, cellsFaults, columnsFaults}
 use Rattle.codes.proofs.Refused.{cells-accepted, columns-accepted}
-use Rattle.codes.specs.Agree.{Agree, inColumns}
+use Rattle.codes.specs.Agree.{Agree, callersColumns}
 use Rattle.decide.specs.Survivors.{named}
 use Rattle.rebuild.specs.Rebuild.{Decides, Rebuilds, RebuildsCells, RebuildsColumns}
 use Rattle.rebuild.proofs.Deciding.{eleven, determined}
 use Rattle.rebuild.proofs.OneAnswer.{rebuilds-alike}
 
 -- the two calls on stripes of the same length that differ in lost cells only
-pub cells-lost-bytes : (s : Shape) (numbers old old′ : List ℕ) → length old ≡ length old′ → Agree s (named numbers) old old′ → (a a′ : ℕ) (new new′ : List ℕ)
+pub cells-lost-bytes : (s : Shape) (numbers old old′ : List ℕ) → length old ≡ length old′ → Agree s (named s numbers) old old′ → (a a′ : ℕ) (new new′ : List ℕ)
     → RebuildsCells s numbers old a new → RebuildsCells s numbers old′ a′ new′ → (a ≡ a′) × (a ≡ 0 → new ≡ new′)
 cells-lost-bytes s numbers old old′ long agree a a′ new new′ h h′ =
-    rebuilds-alike s (named numbers) old old′ agree a a′ new new′ (refusal (cellsFaults s (length old) numbers)) (λ e. cells-accepted s (length old) numbers e .0) h
-    (subst (λ (n : ℕ). Rebuilds s (named numbers) (refusal (cellsFaults s n numbers)) old′ a′ new′) (sym long) h′)
+    rebuilds-alike s (named s numbers) old old′ agree a a′ new new′ (refusal (cellsFaults s (length old) numbers)) (λ e. cells-accepted s (length old) numbers e .0) h
+    (subst (λ (n : ℕ). Rebuilds s (named s numbers) (refusal (cellsFaults s n numbers)) old′ a′ new′) (sym long) h′)
 
-pub columns-lost-bytes : (s : Shape) (i j : ℕ) (old old′ : List ℕ) → length old ≡ length old′ → Agree s (inColumns s i j) old old′ → (a a′ : ℕ) (new new′ : List ℕ)
+pub columns-lost-bytes : (s : Shape) (i j : ℕ) (old old′ : List ℕ) → length old ≡ length old′ → Agree s (callersColumns s i j) old old′ → (a a′ : ℕ) (new new′ : List ℕ)
     → RebuildsColumns s i j old a new → RebuildsColumns s i j old′ a′ new′ → (a ≡ a′) × (a ≡ 0 → new ≡ new′)
 columns-lost-bytes s i j old old′ long agree a a′ new new′ h h′ =
-    rebuilds-alike s (inColumns s i j) old old′ agree a a′ new new′ (refusal (columnsFaults s (length old) i j)) (λ e. columns-accepted s (length old) i j e .0) (h .rebuilds)
-    (subst (λ (n : ℕ). Rebuilds s (inColumns s i j) (refusal (columnsFaults s n i j)) old′ a′ new′) (sym long) (h′ .rebuilds))
+    rebuilds-alike s (callersColumns s i j) old old′ agree a a′ new new′ (refusal (columnsFaults s (length old) i j)) (λ e. columns-accepted s (length old) i j e .0) (h .rebuilds)
+    (subst (λ (n : ℕ). Rebuilds s (callersColumns s i j) (refusal (columnsFaults s n i j)) old′ a′ new′) (sym long) (h′ .rebuilds))
 
 -- 11 for one stripe, 11 for any other with the same cells lost
 undetermined-too : (s : Shape) (lost : ℕ → Bool) (old old′ : List ℕ) (a a′ : ℕ) (new new′ : List ℕ) → Decides s lost old a new → Decides s lost old′ a′ new′ → a ≡ 11 → a′ ≡ 11

@@ -10,9 +10,11 @@ use Rattle.xor.proofs.Cases.{by-test, by-equal, clash}
 use Rattle.codes.specs.declared.Shape.{Shape}
 use Rattle.codes.specs.Refusals.{Fault, order, applies, firstOf, refusal, shapeFaults, stripeFaults, columnsFaults}
 use Rattle.codes.proofs.Refused.{columns-accepted}
-use Rattle.codes.specs.Agree.{inColumns}
+use Rattle.codes.specs.Agree.{callersColumns}
 use Rattle.decide.specs.Survivors.{Restores}
 use Rattle.rebuild.specs.Rebuild.{Rebuilds, RebuildsColumns}
+use Rattle.codes.specs.Geometry.{columnOf}
+use Rattle.codes.proofs.Geometry.{column-there}
 use Rattle.decide.proofs.Determined.{columns-determined}
 use Rattle.rebuild.proofs.Deciding.{eleven, twelve, done}
 
@@ -31,15 +33,15 @@ unfolding refusal columnsFaults stripeFaults shapeFaults applies
 no-eleven s bytes a b e = clash (given-applies order (columnsFaults s bytes a b) 11 e (λ z. omega arith)) refl
 
 -- a rebuild of columns never answers 11
-pub columns-never : (s : Shape) (a b : ℕ) (old : List ℕ) (answer : ℕ) (new : List ℕ) → Rebuilds s (inColumns s a b) (refusal (columnsFaults s (length old) a b)) old answer new → answer ≢ 11
+pub columns-never : (s : Shape) (a b : ℕ) (old : List ℕ) (answer : ℕ) (new : List ℕ) → Rebuilds s (callersColumns s a b) (refusal (columnsFaults s (length old) a b)) old answer new → answer ≢ 11
 columns-never s a b old answer new h e =
     by-equal (refusal (columnsFaults s (length old) a b)) 0
-    (λ z. let right = columns-accepted s (length old) a b z in columns-determined s (right .0) a b (right .2) (right .3) (eleven s (inColumns s a b) old answer new (h .decides z) e))
+    (λ z. let right = columns-accepted s (length old) a b z in columns-determined s (right .0) (columnOf s a) (columnOf s b) (column-there s a (right .2)) (column-there s b (right .3)) (eleven s (callersColumns s a b) old answer new (h .decides z) e))
     (λ n. no-eleven s (length old) a b (sym (h .refused n .0) ∙ e))
 
 -- a rebuild of columns with the right numbers answers 12 exactly when no encoded stripe agrees with the survivors
 pub twelve-only : (s : Shape) (a b : ℕ) (old : List ℕ) → refusal (columnsFaults s (length old) a b) ≡ 0 → (answer : ℕ) (new : List ℕ) → RebuildsColumns s a b old answer new
-    → (answer ≡ 12 → (x : List ℕ) → Restores s (inColumns s a b) old x → ⊥) × (((x : List ℕ) → Restores s (inColumns s a b) old x → ⊥) → answer ≡ 12)
+    → (answer ≡ 12 → (x : List ℕ) → Restores s (callersColumns s a b) old x → ⊥) × (((x : List ℕ) → Restores s (callersColumns s a b) old x → ⊥) → answer ≡ 12)
 twelve-only s a b old right answer new h =
     let decides = h .rebuilds .decides right in
-    (twelve s (inColumns s a b) old answer new decides, λ none. by-equal answer 12 (λ e. e) (λ n. absurd (none new (done s (inColumns s a b) old answer new decides (h .never) n .1))))
+    (twelve s (callersColumns s a b) old answer new decides, λ none. by-equal answer 12 (λ e. e) (λ n. absurd (none new (done s (callersColumns s a b) old answer new decides (h .never) n .1))))

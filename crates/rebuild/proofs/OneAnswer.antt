@@ -12,7 +12,7 @@ use Rattle.codes.specs.Encoded.{byteAt}
 use Rattle.codes.specs.Refusals.{refusal, cellsFaults, columnsFaults}
 use Rattle.codes.proofs.Refused.{accepted, cells-accepted, columns-accepted}
 use Rattle.codes.proofs.Parity.{same-bytes}
-use Rattle.codes.specs.Agree.{Agree, inColumns}
+use Rattle.codes.specs.Agree.{Agree, callersColumns}
 use Rattle.decide.specs.Survivors.{Undetermined, Restores, named}
 use Rattle.rebuild.specs.Rebuild.{Decides, undetermined, disagree, restored, Rebuilds, RebuildsCells, RebuildsColumns}
 use Rattle.rebuild.proofs.Deciding.{agree-sym, agree-trans, restores-also, eleven, determined, twelve, done, kept, zero-done}
@@ -66,8 +66,8 @@ rebuilds-one s lost wrong old formed a b x y ha hb =
     (alike .0, by-equal a 0 (alike .1) (λ n. rebuilds-kept s lost wrong old a x ha n ∙ sym (rebuilds-kept s lost wrong old b y hb (λ z. n (alike .0 ∙ z)))))
 
 pub cells-one : (s : Shape) (numbers old : List ℕ) (a b : ℕ) (x y : List ℕ) → RebuildsCells s numbers old a x → RebuildsCells s numbers old b y → (a ≡ b) × (x ≡ y)
-cells-one s numbers old = rebuilds-one s (named numbers) (refusal (cellsFaults s (length old) numbers)) old (λ e. cells-accepted s (length old) numbers e .0)
+cells-one s numbers old = rebuilds-one s (named s numbers) (refusal (cellsFaults s (length old) numbers)) old (λ e. cells-accepted s (length old) numbers e .0)
 
 pub columns-one : (s : Shape) (i j : ℕ) (old : List ℕ) (a b : ℕ) (x y : List ℕ) → RebuildsColumns s i j old a x → RebuildsColumns s i j old b y → (a ≡ b) × (x ≡ y)
 columns-one s i j old a b x y ha hb =
-    rebuilds-one s (inColumns s i j) (refusal (columnsFaults s (length old) i j)) old (λ e. columns-accepted s (length old) i j e .0) a b x y (ha .rebuilds) (hb .rebuilds)
+    rebuilds-one s (callersColumns s i j) (refusal (columnsFaults s (length old) i j)) old (λ e. columns-accepted s (length old) i j e .0) a b x y (ha .rebuilds) (hb .rebuilds)

@@ -7,7 +7,7 @@ use Prim.Native.Nat.{ℕ}
 use lib.ListN.{length}
 use Rattle.codes.specs.declared.Shape.{Shape}
 use Rattle.codes.specs.Refusals.{refusal, cellsFaults, columnsFaults}
-use Rattle.codes.specs.Agree.{inColumns}
+use Rattle.codes.specs.Agree.{callersColumns}
 use Rattle.decide.specs.Survivors.{named, Undetermined, Restores}
 
 -- demand 3, where the numbers are right: the lost cells are undetermined, the survivors disagree, or the stripe is restored
@@ -26,9 +26,9 @@ pub record Rebuilds (s : Shape) (lost : ℕ → Bool) (wrong : ℕ) (old : List 
 
 -- rebuild of the cells that a list names
 abbrev pub RebuildsCells : Shape → List ℕ → List ℕ → ℕ → List ℕ → Type 0
-RebuildsCells s numbers old answer new = Rebuilds s (named numbers) (refusal (cellsFaults s (length old) numbers)) old answer new
+RebuildsCells s numbers old answer new = Rebuilds s (named s numbers) (refusal (cellsFaults s (length old) numbers)) old answer new
 
--- rebuild of columns a and b: as of all cells in them, and never refused as undetermined
+-- rebuild of the columns that a caller calls a and b: as of all cells in them, and never refused as undetermined
 pub record RebuildsColumns (s : Shape) (a b : ℕ) (old : List ℕ) (answer : ℕ) (new : List ℕ) : Type 0 where
-  pub rebuilds : Rebuilds s (inColumns s a b) (refusal (columnsFaults s (length old) a b)) old answer new
+  pub rebuilds : Rebuilds s (callersColumns s a b) (refusal (columnsFaults s (length old) a b)) old answer new
   pub never : answer ≢ 11

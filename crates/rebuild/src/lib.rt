@@ -61,6 +61,8 @@ pub fn columns(shape: Shape, stripe: &mut [u8], a: usize, b: usize) -> usize
     if refusal != 0 {
         return refusal;
     }
-    let map = decide::mark_columns(shape, a, b);
+    let first = codes::column_of(shape, a);
+    let second = codes::column_of(shape, b);
+    let map = decide::mark_columns(shape, first, second);
     rebuild_lost(shape, stripe, map)
 }

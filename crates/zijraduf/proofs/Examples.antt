@@ -71,8 +71,8 @@ claimed s stripe (broken n) = eqb (brokenEquations s stripe) n
 claimed s stripe (written row column bytes new n) =
     eqb (refusal (writeFaults s (length stripe) row column (length bytes))) 0
     && (eqb (length new) (length stripe) && (not (unwritten s (cellNumber s row column) stripe bytes new) && eqb n (depending s (cellNumber s row column))))
-claimed s stripe (undetermined lost) = stops (outcome s (named lost))
-claimed s stripe (determined lost) = not (stops (outcome s (named lost)))
+claimed s stripe (undetermined lost) = stops (outcome s (named s lost))
+claimed s stripe (determined lost) = not (stops (outcome s (named s lost)))
 claimed s stripe (found finding) = finds s stripe finding
 claimed s stripe (planned k taken reads) =
     eqb (refusal (planFaults s k)) 0
@@ -215,8 +215,8 @@ unfolding claimed c
 claimed-so s stripe encoded right h = is-clean s stripe h
 claimed-so s stripe (broken n) right h = eqb-true (brokenEquations s stripe) n h
 claimed-so s stripe (written row column bytes new n) right h = (is-written s stripe row column bytes new n h, is-depending s stripe row column bytes new n h)
-claimed-so s stripe (undetermined lost) right h = stops-undetermined s (accepted s (length stripe) right .0) (named lost) h
-claimed-so s stripe (determined lost) right h = passes-determined s (accepted s (length stripe) right .0) (named lost) (not-true (stops (outcome s (named lost))) h)
+claimed-so s stripe (undetermined lost) right h = stops-undetermined s (accepted s (length stripe) right .0) (named s lost) h
+claimed-so s stripe (determined lost) right h = passes-determined s (accepted s (length stripe) right .0) (named s lost) (not-true (stops (outcome s (named s lost))) h)
 claimed-so s stripe (found answer) right h = record { number = found-number s stripe answer h ∙ sym right; finding = λ z. is-found s (accepted s (length stripe) right .0) stripe answer h }
 claimed-so s stripe (planned k taken reads) right h = is-planned s stripe k taken reads h
 claimed-so s stripe (runRefused k plan number) right h = eqb-true (refusal (runFaults s (length stripe) (rows s * s .cell) k plan 0)) number h

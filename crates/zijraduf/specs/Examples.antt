@@ -80,8 +80,8 @@ abbrev pub Claims : Shape → List ℕ → Claim → Type 0
 Claims s stripe encoded = Encoded s stripe
 Claims s stripe (broken n) = brokenEquations s stripe ≡ n
 Claims s stripe (written row column bytes new n) = Written s (cellNumber s row column) stripe bytes new × Depending s (cellNumber s row column) n
-Claims s stripe (undetermined lost) = Undetermined s (named lost)
-Claims s stripe (determined lost) = Undetermined s (named lost) → ⊥
+Claims s stripe (undetermined lost) = Undetermined s (named s lost)
+Claims s stripe (determined lost) = Undetermined s (named s lost) → ⊥
 Claims s stripe (found finding) = Finds s stripe finding
 Claims s stripe (planned k taken reads) = Plans s k (Plan (record { rows = taken; reads = reads }))
 Claims s stripe (runRefused k plan number) = refusal (runFaults s (length stripe) (rows s * s .cell) k plan 0) ≡ number
