@@ -19,10 +19,11 @@ use Rattle.xor.proofs.Sums.{xors-same}
 use Rattle.bits.specs.Bit.{IsLowest}
 use Rattle.codes.specs.declared.Shape.{Shape}
 use Rattle.codes.specs.Shape.{rows, columns, cells, equations, stripeLength, WellFormed}
-use Rattle.codes.specs.Geometry.{cellOf}
+use Rattle.codes.specs.Geometry.{columnOf, liesAt, cellOf}
 use Rattle.codes.specs.Encoded.{parityCell, sumsCell, byteAt, sumOver, total, Solves, Encoded}
 use Rattle.codes.specs.Refusals.{refusal, stripeFaults}
 use Rattle.codes.specs.Agree.{inColumns}
+use Rattle.codes.proofs.Geometry.{column-there, lies-there, column-lies}
 use Rattle.codes.proofs.Solutions.{total-zero, zero-total, solves-same}
 use Rattle.equation.specs.Window.{bytesAt, failsIn}
 use Rattle.equation.proofs.Windows.{not-failing}
@@ -53,8 +54,12 @@ module _ (s : Shape) (w : WellFormed s) (stripe : List ℕ) (at n : ℕ) where
     not-clean : CleanIn s stripe at n → ⊥
     not-clean h = fails′ (total-zero s q (bytesAt s stripe (at + i)) (h i li q lq))
 
-    pub named-column : ExplainsIn s stripe at n c → FindingIn s stripe at n (Column c)
-    named-column h = (not-clean, h)
+    pub named-column : c < columns s → (d : ℕ) → d ≡ liesAt s c → ExplainsIn s stripe at n c → FindingIn s stripe at n (Column d)
+    named-column l d e h = (
+      not-clean,
+      subst (λ (k : ℕ). k < columns s) (sym e) (lies-there s c l),
+      subst (ExplainsIn s stripe at n) (sym (column-lies s c l) ∙ ap (columnOf s) (sym e)) h,
+    )
 
     pub none-named : c ≡ columns s → FindingIn s stripe at n Unexplained
     none-named e = (not-clean, λ d h. candidate .none (bytesAt s stripe (at + i)) of (omega arith) d (explains-one d h i li))
@@ -139,7 +144,7 @@ module _ (s : Shape) (w : WellFormed s) (stripe : List ℕ) (long : length strip
   clean-whole e i l q lq = subst (λ (k : ℕ). byteAt s stripe (parityCell s q) k ≡ sumOver s q (bytesAt s stripe k)) (sym (zero-add i)) (e .holds q lq i l)
 
   -- a column that explains every byte can be replaced
-  module _ (c : ℕ) (h : ExplainsIn s stripe 0 (s .cell) c) where
+  module _ (d : ℕ) (inside : d < columns s) (h : ExplainsIn s stripe 0 (s .cell) (columnOf s d)) where
     byte-of : ℕ → ℕ → ℕ
     byte-of t k = h .mended t k % 2 ^ 8
 
@@ -153,10 +158,10 @@ module _ (s : Shape) (w : WellFormed s) (stripe : List ℕ) (long : length strip
         (λ l. subst (λ (x : ℕ). x < 256) (sym (built-byte s byte-of i l)) (mod-lt (h .mended (i % s .cell) (cellOf s (i / s .cell))) (omega arith)))
         (λ l. subst (λ (x : ℕ). x < 256) (sym (List·getD-eq-default witness 0 (omega (arith, built-long s byte-of)))) (omega arith))
 
-    replaced-by : Replaceable s stripe c
+    replaced-by : Replaceable s stripe d
     unfolding witness byte-of inColumns byteAt
     replaced-by = record {
-      inside = h .inside;
+      inside = inside;
       replaced = witness;
       restores = record {
         is = record {
@@ -166,7 +171,7 @@ module _ (s : Shape) (w : WellFormed s) (stripe : List ℕ) (long : length strip
         };
         agree = record {
           same = λ k lk e t l.
-              let other : k / rows s ≢ c = λ same. clash (ap₂ _||_ (eq-eqb (k / rows s) c same) (eq-eqb (k / rows s) c same)) e in
+              let other : k / rows s ≢ columnOf s d = λ same. clash (ap₂ _||_ (eq-eqb (k / rows s) (columnOf s d) same) (eq-eqb (k / rows s) (columnOf s d) same)) e in
               sym (built-at s w byte-of k lk t l ∙ ap (λ (x : ℕ). x % 2 ^ 8) (h .agree t l k lk other ∙ ap (byteAt s stripe k) (zero-add t)) ∙ mod-eq-of-lt (byte-small k t));
         };
       };
@@ -176,19 +181,19 @@ module _ (s : Shape) (w : WellFormed s) (stripe : List ℕ) (long : length strip
         byte-small k t = bytes _
 
   -- and one that can be replaced explains every byte
-  explains-whole : (c : ℕ) → Replaceable s stripe c → ExplainsIn s stripe 0 (s .cell) c
+  explains-whole : (d : ℕ) → Replaceable s stripe d → ExplainsIn s stripe 0 (s .cell) (columnOf s d)
   unfolding inColumns
-  explains-whole c h = record {
-    inside = h .inside;
+  explains-whole d h = record {
+    inside = column-there s d (h .inside);
     mended = bytesAt s (h .replaced);
     solves = λ i l q lq. h .restores .is .encoded .holds q lq i l;
-    agree = λ i l k lk other. sym (h .restores .agree .same k lk (rw (ne-eqb (k / rows s) c other) refl) i l) ∙ ap (byteAt s stripe k) (sym (zero-add i));
+    agree = λ i l k lk other. sym (h .restores .agree .same k lk (rw (ne-eqb (k / rows s) (columnOf s d) other) refl) i l) ∙ ap (byteAt s stripe k) (sym (zero-add i));
   }
 
   pub finding-whole : (answer : BadColumn) → FindingIn s stripe 0 (s .cell) answer → Finding s stripe answer
   finding-whole Clean h = whole-clean h
-  finding-whole (Column c) h = (λ e. h .0 (clean-whole e), replaced-by c (h .1))
-  finding-whole Unexplained h = (λ e. h .0 (clean-whole e), λ c r. h .1 c (explains-whole c r))
+  finding-whole (Column d) h = (λ e. h .0 (clean-whole e), replaced-by d (h .1) (h .2))
+  finding-whole Unexplained h = (λ e. h .0 (clean-whole e), λ d r. h .1 (columnOf s d) (explains-whole d r))
   finding-whole (Refused number) h = absurd h
 
 -- an accepted stripe's finding

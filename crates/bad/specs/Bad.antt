@@ -9,14 +9,14 @@ use Rattle.codes.specs.Encoded.{Encoded}
 use Rattle.codes.specs.Refusals.{refusal, stripeFaults}
 use Rattle.bad.specs.declared.BadColumn.{BadColumn}
 use Rattle.bad.specs.declared.BadColumn.the-variants.{Clean, Column, Unexplained, Refused}
-use Rattle.codes.specs.Agree.{inColumns}
+use Rattle.codes.specs.Agree.{callersColumns}
 use Rattle.decide.specs.Survivors.{Restores}
 
--- the replacement of column c alone makes the stripe encoded
+-- the replacement of the column that a caller calls c alone makes the stripe encoded
 pub record Replaceable (s : Shape) (stripe : List ℕ) (c : ℕ) : Type 0 where
   pub inside : c < columns s
   pub replaced : List ℕ
-  pub restores : Restores s (inColumns s c c) stripe replaced
+  pub restores : Restores s (callersColumns s c c) stripe replaced
 
 -- the refusal number that an answer gives; 0 where it gives a finding
 abbrev pub badNumber : BadColumn → ℕ

@@ -10,6 +10,7 @@ use Rattle.xor.specs.Xor.{_⊕_, xors}
 use Rattle.bits.specs.Bit.{IsLowest}
 use Rattle.codes.specs.declared.Shape.{Shape}
 use Rattle.codes.specs.Shape.{rows, columns, cells, equations, cellNumber}
+use Rattle.codes.specs.Geometry.{columnOf}
 use Rattle.codes.specs.Encoded.{byteAt, total, Solves}
 use Rattle.codes.specs.Holders.{holds}
 use Rattle.equation.specs.Window.{bytesAt}
@@ -52,9 +53,9 @@ pub record ExplainsIn (s : Shape) (stripe : List ℕ) (at n c : ℕ) : Type 0 wh
 abbrev pub CleanIn : Shape → List ℕ → ℕ → ℕ → Type 0
 CleanIn s stripe at n = (i : ℕ) → i < n → Solves s (bytesAt s stripe (at + i))
 
--- what a finding says of them
+-- what a finding says of them; a column is named as callers number it
 abbrev pub FindingIn : Shape → List ℕ → ℕ → ℕ → BadColumn → Type 0
 FindingIn s stripe at n Clean = CleanIn s stripe at n
-FindingIn s stripe at n (Column c) = (CleanIn s stripe at n → ⊥) × ExplainsIn s stripe at n c
+FindingIn s stripe at n (Column d) = (CleanIn s stripe at n → ⊥) × (d < columns s) × ExplainsIn s stripe at n (columnOf s d)
 FindingIn s stripe at n Unexplained = (CleanIn s stripe at n → ⊥) × ((c : ℕ) → ExplainsIn s stripe at n c → ⊥)
 FindingIn s stripe at n (Refused number) = ⊥

@@ -124,7 +124,7 @@ fn name_column(shape: Shape, stripe: &[u8], q: usize, at: usize, n: usize) -> Ba
         return BadColumn::Unexplained;
     }
     if column_agrees(shape, stripe, c, at, n) {
-        return BadColumn::Column(c);
+        return BadColumn::Column(codes::lies_at(shape, c));
     }
     BadColumn::Unexplained
 }

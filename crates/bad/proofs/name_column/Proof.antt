@@ -1,6 +1,8 @@
 -- `bad::name_column` meets its contract. The candidate is the only column that can explain the byte.
 use mathlib.Core.Path.{sym, _∙_}
+use Prim.Native.Nat.{_<_}
 use native.Mathlib.Omega.{arith}
+use Rattle.codes.specs.Shape.{columns}
 use Rattle.bad.proofs.Naming.{named-column, none-named, not-this}
 use borrow.Author.Needs.{needs}
 use Rattle.bad.proofs.name_column.Statement.{statement}
@@ -33,20 +35,24 @@ returns c =
     none-named (a .shape) (start .pre .0 .formed) (a .stripe .now) (a .at) (a .n) (a .q) _ (start .pre .1) (found .failing-byte .ensures .0) (found .failing-byte .ensures .1)
     _ (c .before .before .before .totals-at .ensures) _ (c .before .before .candidate .ensures) (c .if1 .taken ∙ c .before .column-count .ensures)
 
+-- the candidate is a column
+there : (c : tie.Else1) → c .before .before .candidate .result < columns (c .before .before .before .before .before .before .args .shape)
+there c = let other = c .if1 .left in omega (arith, c .before .before .candidate .ensures .most, c .before .column-count .ensures, other)
+
 column-agrees-requires : tie.Need-column-agrees-requires
-column-agrees-requires c κs =
-    let start = c .before .before .before .before .before .before in
-    let other = c .if1 .left in
-    (start .pre .0, omega (arith, c .before .before .candidate .ensures .most, c .before .column-count .ensures, other))
+column-agrees-requires c κs = (c .before .before .before .before .before .before .pre .0, there c)
+
+lies-at-requires : tie.Need-lies-at-requires
+lies-at-requires c κs = (c .before .before .before .before .before .before .before .before .pre .0 .formed, there (c .before .before))
 
 returns-2 : tie.Need-returns-2
 returns-2 c =
-    let counted = c .before .before .before in
+    let counted = c .before .before .before .before in
     let found = counted .before .before .before in
     let start = found .before .before in
     let a = start .args in
     named-column (a .shape) (start .pre .0 .formed) (a .stripe .now) (a .at) (a .n) (a .q) _ (start .pre .1) (found .failing-byte .ensures .0) (found .failing-byte .ensures .1)
-    _ (counted .before .before .totals-at .ensures) _ (counted .before .candidate .ensures) (c .before .column-agrees .ensures .yes (c .if2 .taken))
+    _ (counted .before .before .totals-at .ensures) _ (counted .before .candidate .ensures) (there (c .before .before .before)) _ (c .lies-at .ensures) (c .before .before .column-agrees .ensures .yes (c .before .if2 .taken))
 
 returns-3 : tie.Need-returns-3
 returns-3 c =
@@ -69,5 +75,6 @@ name-column-spec =
     column-count-requires
     returns
     column-agrees-requires
+    lies-at-requires
     returns-2
     returns-3)
