@@ -105,6 +105,9 @@ module _ (s : Shape) (w : WellFormed s) (c : ℕ) (lc : c < columns s) where
             ∙ sym (total-plus s r f (e .mended) ∙ ap (λ (x : ℕ). total s r f ⊕ x) (total-zero s r (e .mended) (e .solves r lr)) ∙ ⊕-zero (total s r f))
             ∙ column-total y (λ k l n. equal-⊕ (f k) (e .mended k) (sym (e .agree k l n))) r lr
 
+        same-row : (j i : ℕ) → j < rows s → i < rows s → cellNumber s j c ≡ cellNumber s i c → j ≡ i
+        same-row j i lj li e = sym (row-is s w j c lj) ∙ ap (λ (k : ℕ). k % rows s) e ∙ row-is s w i c li
+
         -- the lowest equation that holds a cell holds no other cell of the column
         value-is : (i : ℕ) → i < rows s → h .value i ≡ y (cellNumber s i c)
         value-is i l =
@@ -116,9 +119,6 @@ module _ (s : Shape) (w : WellFormed s) (c : ℕ) (lc : c < columns s) where
             (λ j lj n. ap (λ (b : Bool). cond b (y (cellNumber s j c)) 0)
             (not-passed (λ p. n (same-row j i lj l (lowest-alone s w (cellNumber s i c) inside (by .0) (by .1) (cellNumber s j c) (column-is s w j c lj ∙ sym (column-is s w i c l)) p)))))
             ∙ ap (λ (b : Bool). cond b (y (cellNumber s i c)) 0) (by .1 .passes there)
-
-        same-row : (j i : ℕ) → j < rows s → i < rows s → cellNumber s j c ≡ cellNumber s i c → j ≡ i
-        same-row j i lj li e = sym (row-is s w j c lj) ∙ ap (λ (k : ℕ). k % rows s) e ∙ row-is s w i c li
 
   -- ---- the candidate
 

@@ -5,7 +5,7 @@ use mathlib.Core.List.{List}
 use mathlib.Core.Bool.{Bool, true, false, cond, not, _&&_}
 use Prim.Native.Nat.{ℕ, _+_, _-_, _≤_, _<_}
 use native.Mathlib.Omega.{arith}
-use lib.Bits.{bitXor, bitAnd}
+use lib.Bits.{bitXor}
 use lib.Dec.{eqb, ltb}
 use lib.ListN.{length, getD, set, length-set}
 use lib.Seq.{getD-set-same, getD-set-other}
@@ -16,12 +16,12 @@ use Rattle.xor.proofs.Algebra.{⊕-is, ⊕-zero, ⊕-assoc}
 use Rattle.xor.proofs.Sums.{xors-none, xors-more, xors-same}
 use Rattle.bits.specs.Bit.{bit, IsLowest}
 use Rattle.bits.proofs.Bits.{bit-zero}
-use Rattle.bits.proofs.Masks.{clear-lowest}
 use Rattle.codes.specs.declared.Shape.{Shape}
 use Rattle.codes.specs.Shape.{cells, equations, cellNumber, WellFormed}
 use Rattle.codes.specs.Holders.{holds, HeldBy}
 use Rattle.codes.proofs.Depends.{held-some}
-use Rattle.bad.specs.Candidate.{XoredIn, Without}
+use Rattle.solve.specs.Masked.{Added}
+use Rattle.bad.specs.Candidate.{Without}
 
 -- ---- one entry
 
@@ -30,84 +30,12 @@ pub filled-more : (f : ℕ → ℕ) (old : List ℕ) (q x : ℕ) → q < length 
 filled-more f old q x l before here k lk =
     by-equal k q (λ e. ap (λ (j : ℕ). getD (set old q x) j 0) e ∙ getD-set-same old q x 0 l ∙ here ∙ ap f (sym e)) (λ n. getD-set-other old q k x 0 n ∙ before k (omega arith))
 
--- ---- the entries of a set: those in rest are still to come
-
-pub record XoredTo (old : List ℕ) (whole x rest : ℕ) (now′ : List ℕ) : Type 0 where
-  pub long : length now′ ≡ 64
-  pub within : (k : ℕ) → bit k rest ≡ true → bit k whole ≡ true
-  pub at : (k : ℕ) → k < 64 → getD now′ k 0 ≡ getD old k 0 ⊕ cond (bit k whole && not (bit k rest)) x 0
-
--- a member is still to come, or it isn't
-gone : (b r : Bool) → r ≡ true → (b && not r) ≡ false
-gone true true e = refl
-gone false true e = refl
-gone b false e = clash e refl
-
-there : (b r : Bool) → b ≡ true → r ≡ false → (b && not r) ≡ true
-there true false e p = refl
-there b true e p = clash refl p
-there false r e p = clash e refl
-
-module _ (old : List ℕ) (whole x : ℕ) where
-  pub xored-none : length old ≡ 64 → XoredTo old whole x whole old
-  xored-none long = record {
-    long = long;
-    within = λ k p. p;
-    at = λ k l. sym (⊕-zero (getD old k 0)) ∙ ap (λ (b : Bool). getD old k 0 ⊕ cond b x 0) (sym (none (bit k whole)));
-  }
-    where
-      none : (b : Bool) → (b && not b) ≡ false
-      none true = refl
-      none false = refl
-
-  -- the lowest that is still to come
-  pub xored-more : (rest q : ℕ) (mid : List ℕ) → q < 64 → IsLowest 64 (λ k. bit k rest) q → XoredTo old whole x rest mid
-      → XoredTo old whole x (bitAnd rest (rest - 1)) (set mid q (bitXor (getD mid q 0) x))
-  xored-more rest q mid lq lowest h = record {
-    long = length-set mid q (bitXor (getD mid q 0) x) ∙ h .long;
-    within = λ k p. h .within k (and-left (bit k rest) (not (eqb k q)) (sym (left k) ∙ p));
-    at = λ k l. by-equal k q
-        (λ e. ap (λ (j : ℕ). getD (set mid q (bitXor (getD mid q 0) x)) j 0) e ∙ getD-set-same mid q (bitXor (getD mid q 0) x) 0 (omega (arith, h .long))
-        ∙ sym (⊕-is (getD mid q 0) x) ∙ ap (λ (y : ℕ). y ⊕ x) (was q lq here ∙ ap (λ (j : ℕ). getD old j 0) (sym e))
-        ∙ ap (λ (b : Bool). getD old k 0 ⊕ cond b x 0) (sym (there (bit k whole) (bit k (bitAnd rest (rest - 1))) (h .within k (ap (λ (j : ℕ). bit j rest) e ∙ here)) (out k e))))
-        (λ n. getD-set-other mid q k (bitXor (getD mid q 0) x) 0 n ∙ h .at k l ∙ ap (λ (b : Bool). getD old k 0 ⊕ cond (bit k whole && not b) x 0) (same k n));
-  }
-    where
-      left : (k : ℕ) → bit k (bitAnd rest (rest - 1)) ≡ (bit k rest && not (eqb k q))
-      left = clear-lowest 64 rest q lowest lq
-
-      here : bit q rest ≡ true
-      here = lowest .passes lq
-
-      -- before its turn an entry is as it was
-      was : (k : ℕ) → k < 64 → bit k rest ≡ true → getD mid k 0 ≡ getD old k 0
-      was k l p = h .at k l ∙ ap (λ (b : Bool). getD old k 0 ⊕ cond b x 0) (gone (bit k whole) (bit k rest) p) ∙ ⊕-zero (getD old k 0)
-
-      out : (k : ℕ) → k ≡ q → bit k (bitAnd rest (rest - 1)) ≡ false
-      out k e = left k ∙ ap (λ (b : Bool). bit k rest && not b) (eq-eqb k q e) ∙ nothing (bit k rest)
-        where
-          nothing : (b : Bool) → (b && false) ≡ false
-          nothing true = refl
-          nothing false = refl
-
-      same : (k : ℕ) → k ≢ q → bit k rest ≡ bit k (bitAnd rest (rest - 1))
-      same k n = sym (left k ∙ ap (λ (b : Bool). bit k rest && not b) (ne-eqb k q n) ∙ all (bit k rest))
-        where
-          all : (b : Bool) → (b && true) ≡ b
-          all true = refl
-          all false = refl
-
-  pub xored-all : (rest : ℕ) (new : List ℕ) → rest ≡ 0 → XoredTo old whole x rest new → XoredIn old whole x new
-  xored-all rest new e h = record {
-    long = h .long;
-    at = λ k l. h .at k l ∙ ap (λ (b : Bool). getD old k 0 ⊕ cond b x 0) (ap (λ (b : Bool). bit k whole && not b) (ap (bit k) e ∙ bit-zero k) ∙ whole-of (bit k whole));
-  }
-    where
-      whole-of : (b : Bool) → (b && true) ≡ b
-      whole-of true = refl
-      whole-of false = refl
-
 -- ---- one row
+
+-- x XORed into a number where a test passes
+added : (b : Bool) (a x : ℕ) → cond b (bitXor a x) a ≡ a ⊕ cond b x 0
+added true a x = sym (⊕-is a x)
+added false a x = sym (⊕-zero a)
 
 module _ (s : Shape) (w : WellFormed s) (c m : ℕ) (inside : c < cells s) (held : HeldBy s c m) where
   -- some equation holds the cell
@@ -140,14 +68,14 @@ module _ (s : Shape) (totals : List ℕ) (column : ℕ) where
 
   -- the cell in row i takes in x, the total of the lowest equation that holds it
   pub without-more : (i x m low : ℕ) (rest next : List ℕ) → equations s ≤ 64 → Without s totals column i rest → HeldBy s (cellNumber s i column) m
-      → IsLowest (equations s) (λ k. holds s k (cellNumber s i column)) low → x ≡ getD totals low 0 → XoredIn rest m x next → Without s totals column (i + 1) next
+      → IsLowest (equations s) (λ k. holds s k (cellNumber s i column)) low → x ≡ getD totals low 0 → Added rest m x next → Without s totals column (i + 1) next
   without-more i x m low rest next few before held lowest total put = record {
     value = value;
     by = λ j l. by-equal j i
         (λ e. (low, subst (λ (k : ℕ). IsLowest (equations s) (λ r. holds s r (cellNumber s k column)) low) (sym e) lowest, here j e ∙ total))
         (λ n. let found = before .by j (omega arith) in (found .0, found .1, other j n ∙ found .2));
     left = λ q l.
-        put .at q (omega arith)
+        put .mask q (omega arith) ∙ added (bit q m) (getD rest q 0) x
         ∙ ap₂ _⊕_ (before .left q l) (ap (λ (b : Bool). cond b x 0) (held .bits q ∙ ap (λ (b : Bool). b && holds s q (cellNumber s i column)) (lt-ltb q (equations s) l)) ∙ own q)
         ∙ ⊕-assoc (getD totals q 0) (xors i (part q (before .value))) (part q value i)
         ∙ ap (λ (y : ℕ). getD totals q 0 ⊕ y)

@@ -5,9 +5,9 @@ use mathlib.Core.Logic.{_≢_}
 use mathlib.Core.List.{List}
 use mathlib.Core.Bool.{cond}
 use Prim.Native.Nat.{ℕ, _+_, _/_, _≤_, _<_}
-use lib.ListN.{length, getD}
+use lib.ListN.{getD}
 use Rattle.xor.specs.Xor.{_⊕_, xors}
-use Rattle.bits.specs.Bit.{bit, IsLowest}
+use Rattle.bits.specs.Bit.{IsLowest}
 use Rattle.codes.specs.declared.Shape.{Shape}
 use Rattle.codes.specs.Shape.{rows, columns, cells, equations, cellNumber}
 use Rattle.codes.specs.Encoded.{byteAt, total, Solves}
@@ -26,11 +26,6 @@ pub record Explains (s : Shape) (f : ℕ → ℕ) (c : ℕ) : Type 0 where
 -- the totals are those of all equations over the values f
 pub record TotalsOf (s : Shape) (f : ℕ → ℕ) (totals : List ℕ) : Type 0 where
   pub of : (q : ℕ) → q < equations s → getD totals q 0 ≡ total s q f
-
--- new is old with x XORed into the totals of the equations in the set
-pub record XoredIn (old : List ℕ) (set x : ℕ) (new : List ℕ) : Type 0 where
-  pub long : length new ≡ 64
-  pub at : (q : ℕ) → q < 64 → getD new q 0 ≡ getD old q 0 ⊕ cond (bit q set) x 0
 
 -- rest is what the totals become when the cells of a column, in the first n rows, each take in the total of the lowest equation that holds them
 pub record Without (s : Shape) (totals : List ℕ) (column n : ℕ) (rest : List ℕ) : Type 0 where

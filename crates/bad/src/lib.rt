@@ -6,9 +6,10 @@ ghost use Prim.Native.Nat.{_<_};
 ghost use lib.ListN.{length};
 ghost use Rattle.xor.specs.Runs.{Says};
 ghost use Rattle.codes.specs.Shape.{rows, columns, equations, stripeLength, WellFormed};
+ghost use Rattle.solve.specs.Masked.{Added};
 ghost use Rattle.equation.specs.Window.{bytesAt, Window, failsIn};
 ghost use Rattle.bad.specs.Bad.{Finds};
-ghost use Rattle.bad.specs.Candidate.{TotalsOf, XoredIn, Without, Candidate, ExplainsIn, FindingIn};
+ghost use Rattle.bad.specs.Candidate.{TotalsOf, Without, Candidate, ExplainsIn, FindingIn};
 use codes::Shape;
 use decide::Decided;
 
@@ -38,7 +39,7 @@ fn totals_at(shape: Shape, stripe: &[u8], t: usize) -> [u8; 64]
 // XORs x into the totals of the equations in a set.
 fn add_to(totals: &mut [u8; 64], set: u64, x: u8)
     requires { ⌜ length (now totals) ≡ 64 ⌝ }
-    ensures { λ _. ⌜ XoredIn (now (totals .entry)) set x (now (totals .exit)) ⌝ }
+    ensures { λ _. ⌜ Added (now (totals .entry)) set x (now (totals .exit)) ⌝ }
 {
     let mut rest = set;
     while rest != 0 {

@@ -228,7 +228,7 @@ module _ (s : Shape) (w : WellFormed s) (list sets : List ℕ) where
         → byteAt s new c t ≡ cond (leb at t && ltb t (at + n)) (mended s list sets (k + 1) (bytesAt s old t) c) (byteAt s old c t)
     out-of c l t lt p off = unput c l t lt (λ e. off) ∙ h .byte c l t lt ∙ rw p refl
 
-    pub filled-more : Filled s list sets (k + 1) at (at + n) old new
+    filled-more : Filled s list sets (k + 1) at (at + n) old new
     filled-more = record {
       long = put .long ∙ h .long;
       byte = λ c l t lt.
@@ -245,6 +245,13 @@ module _ (s : Shape) (w : WellFormed s) (list sets : List ℕ) where
           now-is ∙ sym (ap (λ (b : Bool). cond b (mended s list sets (k + 1) (bytesAt s old t) c) (byteAt s old c t)) (in-range at (at + n) t lo hi)))
           (λ hi. out-of c l t lt (after-range at (at + n) t hi) (λ z y. absurd (omega arith))));
     }
+
+  -- the same with the place as the code has it
+  pub filled-at : (k at n : ℕ) (old mid new lanes : List ℕ) → Filled s list sets k at (at + n) old mid → at + n ≤ s .cell
+      → ((i : ℕ) → i < n → laneSum lanes (getD sets k 0) i ≡ summed s (getD sets k 0) (bytesAt s old (at + i))) → getD list k 0 < cells s → (to : ℕ) → to ≡ place s (getD list k 0)
+      → Put mid (to + at) n (λ i. getD mid (to + at + i) 0 ⊕ laneSum lanes (getD sets k 0) i) new → Filled s list sets (k + 1) at (at + n) old new
+  filled-at k at n old mid new lanes h ends sum inside to is put =
+      filled-more k at n old mid new lanes h ends sum inside (subst (λ (x : ℕ). Put mid (x + at) n (λ i. getD mid (x + at + i) 0 ⊕ laneSum lanes (getD sets k 0) i) new) is put)
 
   pub filled-end : (k u from to : ℕ) (old new : List ℕ) → k ≡ u → Filled s list sets k from to old new → Filled s list sets u from to old new
   filled-end k u from to old new e h = subst (λ (n : ℕ). Filled s list sets n from to old new) e h

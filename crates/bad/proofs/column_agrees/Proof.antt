@@ -1,19 +1,19 @@
--- `bad::column_agrees` meets its contract. One column is never undetermined, and the checks tell whether it can be replaced.
+-- `bad::column_agrees` meets its contract. One column is never undetermined, and the checks tell whether it explains the bytes.
 use mathlib.Core.Path.{refl}
 use Prim.Native.Nat.{ℕ}
+use native.Mathlib.Omega.{arith}
 use lib.ListN.{length-replicate}
 use Rattle.decide.proofs.Solving.{is-solved, is-open}
 use Rattle.bad.proofs.Naming.{column-determined, column-says}
-use native.Mathlib.Omega.{arith}
 use borrow.Author.Needs.{needs}
 use Rattle.bad.proofs.column_agrees.Statement.{statement}
 use Rattle.bad.proofs.column_agrees.Tie as tie
 
 mark-columns-requires : tie.Need-mark-columns-requires
-mark-columns-requires c κs = (c .before .pre .0, c .before .pre .2, omega (arith, c .before .pre .2))
+mark-columns-requires c κs = (c .before .pre .0 .formed, c .before .pre .1, c .before .pre .1)
 
 decide-requires : tie.Need-decide-requires
-decide-requires c κs = (c .before .before .before .before .before .pre .0, refl, refl, refl)
+decide-requires c κs = (c .before .before .before .before .before .pre .0 .formed, refl, refl, refl)
 
 enum-known-d : tie.Need-enum-known-d
 enum-known-d c = search needs
@@ -26,7 +26,7 @@ returns c =
     let decided = c .before .before in
     let marked = decided .before .before .before .before in
     let start = marked .before .before in
-    absurd (column-determined (start .args .shape) (start .pre .0) (start .args .column) (start .pre .2) (start .args .stripe .now) (start .pre .1) (λ i. omega (arith, marked .before .shared-slice-known .given i)) _
+    absurd (column-determined (start .args .shape) (start .pre .0 .formed) (start .args .column) (start .pre .1) (start .args .stripe .now) (start .args .at) (start .args .n) _
     (marked .mark-columns .ensures) (is-open _ _ _ _ _ _ (decided .decide .ensures) (c .enum-told .given .1)))
 
 slice-aggregate-survivors-agree : tie.Need-slice-aggregate-survivors-agree
@@ -37,7 +37,7 @@ survivors-agree-requires c κs =
     let known = c .before .before .before in
     let decided = known .before .before in
     let start = decided .before .before .before .before .before .before in
-    (start .pre .0, start .pre .1, is-solved _ _ _ _ _ _ (decided .decide .ensures) _ _ (known .d .given .1) .tests, length-replicate {A = ℕ} 32768 0)
+    (start .pre .0, is-solved _ _ _ _ _ _ (decided .decide .ensures) _ _ (known .d .given .1) .tests, length-replicate {A = ℕ} 32768 0)
 
 returns-2 : tie.Need-returns-2
 returns-2 c =
@@ -45,7 +45,7 @@ returns-2 c =
     let decided = known .before .before in
     let marked = decided .before .before .before .before in
     let start = marked .before .before in
-    column-says (start .args .shape) (start .pre .0) (start .args .column) (start .pre .2) (start .args .stripe .now) (start .pre .1) (λ i. omega (arith, marked .before .shared-slice-known .given i)) _
+    column-says (start .args .shape) (start .pre .0 .formed) (start .args .column) (start .pre .1) (start .args .stripe .now) (start .args .at) (start .args .n) _
     (marked .mark-columns .ensures) _ _ _ _ _ (is-solved _ _ _ _ _ _ (decided .decide .ensures) _ _ (known .d .given .1)) _ (c .before .survivors-agree .ensures .0)
 
 pub column-agrees-spec : {M : Type 1} → statement M

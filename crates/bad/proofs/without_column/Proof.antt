@@ -1,26 +1,22 @@
 -- `bad::without_column` meets its contract. The loop's invariant: `rest` is what is left once the cells of the first i rows have taken in their values.
-use mathlib.Core.Path.{_≡_, refl, _∙_}
-use mathlib.Core.Logic.{⊎-elim}
+use mathlib.Core.Path.{_≡_, refl}
 use Prim.Native.Nat.{_-_, _≤_, _<_}
 use native.Mathlib.Omega.{arith}
-use lib.Bits.{bitXor}
-use lib.ListN.{length, getD, set}
-use Rattle.codes.specs.Shape.{equations}
+use lib.ListN.{length}
+use Rattle.codes.specs.Shape.{cells, cellNumber}
 use Rattle.codes.proofs.Shapes.{small-equations}
+use Rattle.codes.proofs.Positions.{cell-inside}
 use Rattle.bad.specs.Candidate.{Without}
-use Rattle.bad.proofs.Rests.{Xored, xored-in, xored-out, without-none, without-more, without-all}
+use Rattle.bad.proofs.Rests.{held-not-none, held-lowest, without-none, without-more, without-all}
 use borrow.Author.Needs.{needs}
 use Rattle.bad.proofs.without_column.Statement.{statement}
 use Rattle.bad.proofs.without_column.Tie as tie
 
 abbrev Inv-loop : tie.InvT-loop
-Inv-loop shape column totals count rows rest₀ i₀ rest i = (i ≤ rows) × (length rest ≡ 64) × Without shape totals column i rest
+Inv-loop shape column totals rows rest₀ i₀ rest i = (i ≤ rows) × (length rest ≡ 64) × Without shape totals column i rest
 
 abbrev μ-loop : tie.MeasureT-loop
-μ-loop shape column totals count rows rest₀ i₀ rest i = rows - i
-
-equation-count-requires : tie.Need-equation-count-requires Inv-loop μ-loop
-equation-count-requires c κs = search needs
+μ-loop shape column totals rows rest₀ i₀ rest i = rows - i
 
 row-count-requires : tie.Need-row-count-requires Inv-loop μ-loop
 row-count-requires c κs = search needs
@@ -31,31 +27,25 @@ loop-holds c = (omega arith, search needs, without-none _ _ _)
 holders-of-requires : tie.Need-holders-of-requires Inv-loop μ-loop
 holders-of-requires c κs = search needs
 
--- both holders have an entry
-first-small : (c : tie.After-holders-of Inv-loop μ-loop) → c .holders-of .result .first < 64
-first-small c =
-    let start = c .before .before .before .before .before in
-    omega (arith, c .holders-of .ensures .there, small-equations (start .args .shape) (start .pre .0))
+-- the cell in row i of the column is there
+inside : (c : tie.After-holders-of Inv-loop μ-loop) → cellNumber (c .before .before .before .before .args .shape) (c .before .before .loop .i) (c .before .before .before .before .args .column) < cells (c .before .before .before .before .args .shape)
+inside c =
+    let start = c .before .before .before .before in
+    cell-inside (start .args .shape) (start .pre .0) (c .before .before .loop .i) (start .args .column) (omega (arith, c .before .loop-test .taken, c .before .before .before .row-count .ensures)) (start .pre .1)
 
-second-small : (c : tie.Then1 Inv-loop μ-loop) → c .before .holders-of .result .second < 64
-second-small c =
-    let start = c .before .before .before .before .before .before in
-    omega (arith, c .before .before .before .before .before .equation-count .ensures, small-equations (start .args .shape) (start .pre .0))
+lowest-bit-requires : tie.Need-lowest-bit-requires Inv-loop μ-loop
+lowest-bit-requires c κs =
+    let start = c .before .before .before .before in
+    held-not-none (start .args .shape) (start .pre .0) _ _ (inside c) (c .holders-of .ensures)
+
+cast-first : tie.Need-cast-first Inv-loop μ-loop
+cast-first c = search needs
 
 array-read-x : tie.Need-array-read-x Inv-loop μ-loop
-array-read-x = first-small
+array-read-x c = c .lowest-bit .ensures .0
 
-array-read-rest : tie.Need-array-read-rest Inv-loop μ-loop
-array-read-rest = first-small
-
-array-write-rest : tie.Need-array-write-rest Inv-loop μ-loop
-array-write-rest = first-small
-
-array-read-rest-2 : tie.Need-array-read-rest-2 Inv-loop μ-loop
-array-read-rest-2 = second-small
-
-array-write-rest-2 : tie.Need-array-write-rest-2 Inv-loop μ-loop
-array-write-rest-2 = second-small
+add-to-requires : tie.Need-add-to-requires Inv-loop μ-loop
+add-to-requires c κs = c .before .before .before .before .loop .inv .1
 
 add-i : tie.Need-add-i Inv-loop μ-loop
 add-i c = search needs
@@ -65,18 +55,16 @@ loop-less c = omega arith
 
 loop-again : tie.Need-loop-again Inv-loop μ-loop
 loop-again c =
-    let start = c .before .before .before .before .before .before in
-    let turn = c .before .before .before .loop in
-    let h = c .before .holders-of in
-    let n = equations (start .args .shape) in
-    let x = getD (start .args .t2) (h .result .first) 0 in
-    let mid = set (turn .rest) (h .result .first) (bitXor (getD (turn .rest) (h .result .first) 0) x) in
-    let first : Xored n (turn .rest) (h .result .first) x mid = xored-in n _ x (turn .rest) mid (omega (arith, turn .inv .1, first-small (c .before))) refl in
-    let second : Xored n mid (h .result .second) x (c .if1 .rest) = ⊎-elim
-    (λ w. xored-in n _ x mid _ (omega (arith, first .long, turn .inv .1, second-small (record { before = c .before; if1 = w .0 }))) (w .1))
-    (λ w. xored-out n _ x mid _ (omega (arith, w .0 .left, c .before .before .before .before .before .equation-count .ensures)) (w .1))
-    (c .if1 .came) in
-    (omega arith, second .long ∙ first .long ∙ turn .inv .1, without-more _ _ _ _ x _ mid _ (h .result) (turn .inv .2) (h .ensures) refl first second)
+    let held = c .before .before .before in
+    let low = c .before .before in
+    let start = held .before .before .before .before in
+    let turn = held .before .before .loop in
+    let s = start .args .shape in (
+      omega arith,
+      c .add-to .ensures .long,
+      without-more s (start .args .t2) (start .args .column) (turn .i) _ _ _ (turn .rest) _ (omega (arith, small-equations s (start .pre .0))) (turn .inv .2) (held .holders-of .ensures)
+          (held-lowest s (start .pre .0) _ _ (inside held) (held .holders-of .ensures) _ (low .lowest-bit .ensures .0) (low .lowest-bit .ensures .1)) refl (c .add-to .ensures),
+    )
 
 returns : tie.Need-returns Inv-loop μ-loop
 returns c = without-all _ _ _ _ _ _ (omega (arith, c .before .before .row-count .ensures)) (c .before .loop .inv .2)
@@ -87,15 +75,13 @@ without-column-spec =
     (tie.spec
     Inv-loop
     μ-loop
-    equation-count-requires
     row-count-requires
     loop-holds
     holders-of-requires
+    lowest-bit-requires
+    cast-first
     array-read-x
-    array-read-rest
-    array-write-rest
-    array-read-rest-2
-    array-write-rest-2
+    add-to-requires
     add-i
     loop-less
     loop-again
