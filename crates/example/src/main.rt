@@ -1,10 +1,9 @@
 // The calls from Rattle, on a small RDP stripe: p = 3, cells of one byte, 2 rows and 4 columns.
+use bad::BadColumn;
+use codes::Counted;
 use codes::Shape;
 use libc::STDOUT_FILENO;
-use rebuild::BadColumn;
 use spare::PlanAnswer;
-use spare::RunAnswer;
-use stripe::WriteCount;
 
 // Writes a line: what was asked, and the number that came.
 fn tell(what: &[u8], number: usize) {
@@ -17,8 +16,8 @@ fn tell(what: &[u8], number: usize) {
 // Rebuilds the first row of a lost column into a spare, by a plan and a budget of one row.
 fn run_row(shape: Shape, stripe: &[u8], k: usize, plan: u64, spare: &mut [u8]) {
     match spare::run(shape, stripe, k, plan, spare, 0, 1) {
-        RunAnswer::Rows(rows) => tell(b"rows rebuilt", rows),
-        RunAnswer::Refused(number) => tell(b"run refused", number),
+        Counted::Count(rows) => tell(b"rows rebuilt", rows),
+        Counted::Refused(number) => tell(b"run refused", number),
     }
 }
 
@@ -45,15 +44,12 @@ fn main() {
     let mut stripe = [0x01u8, 0x04, 0x02, 0x08, 0, 0, 0, 0];
     tell(b"encode", stripe::encode(shape, &mut stripe));
     match stripe::write(shape, &mut stripe, 1, 0, &[0x00u8]) {
-        WriteCount::ParityCells(count) => tell(
-            b"parity cells that depend on row 1, column 0",
-            count,
-        ),
-        WriteCount::Refused(number) => tell(b"write refused", number),
+        Counted::Count(count) => tell(b"parity cells that depend on row 1, column 0", count),
+        Counted::Refused(number) => tell(b"write refused", number),
     }
     rebuild_column(shape, &stripe, 1);
     stripe[0] = 0xEE;
-    match rebuild::bad_column(shape, &stripe) {
+    match bad::bad_column(shape, &stripe) {
         BadColumn::Clean => tell(b"clean", 0),
         BadColumn::Column(column) => tell(b"bad column", column),
         BadColumn::Unexplained => tell(b"unexplained", 0),

@@ -26,11 +26,11 @@ module _ (s : Shape) (k plan first budget : ℕ) (stripe old : List ℕ) (r : �
   pub run-right : r ≡ 0 → RunRight s (length stripe) (length old) k plan first
   run-right z = run-accepted s (length stripe) (length old) k plan first (sym is ∙ z)
 
-  pub run-refused : r ≢ 0 → RunsByPlan s k plan first budget stripe old (Refused r) old
+  pub run-refused : r ≢ 0 → RunsByPlan s k plan first budget stripe old old (Refused r)
   run-refused n = (is, n, refl)
 
   pub run-done : r ≡ 0 → (left n : ℕ) (new : List ℕ) → left ≡ rows s - first → n ≡ min budget left → RowsRebuilt s k plan first n stripe old new
-      → RunsByPlan s k plan first budget stripe old (Count n) new
+      → RunsByPlan s k plan first budget stripe old new (Count n)
   unfolding rowsRun
   run-done z left n new el e h = (sym z ∙ is, (same, subst (λ (m : ℕ). RowsRebuilt s k plan first m stripe old new) same h))
     where

@@ -50,9 +50,9 @@ rows-same s w k plan first n stripe stripe′ old x y agree whole hx hy =
 
 module _ (s : Shape) (k plan first budget : ℕ) where
   -- two stripes that agree on the cells the plan reads, run with equal numbers from equal spares: the same answer and the same spare
-  pub same-reads : (stripe stripe′ old : List ℕ) (a b : Counted) (x y : List ℕ) → length stripe ≡ length stripe′ → AgreeOnReads s k plan stripe stripe′
-      → RunsByPlan s k plan first budget stripe old a x → RunsByPlan s k plan first budget stripe′ old b y → (a ≡ b) × (x ≡ y)
-  same-reads stripe stripe′ old a b x y long agree =
+  pub same-reads : (stripe stripe′ old : List ℕ) (x y : List ℕ) (a b : Counted) → length stripe ≡ length stripe′ → AgreeOnReads s k plan stripe stripe′
+      → RunsByPlan s k plan first budget stripe old x a → RunsByPlan s k plan first budget stripe′ old y b → (a ≡ b) × (x ≡ y)
+  same-reads stripe stripe′ old x y a b long agree =
       one-answer (runFaults s (length stripe) (length old) k plan first) (runFaults s (length stripe′) (length old) k plan first) old x y (done stripe x) (done stripe′ y)
       (ap (λ (n : ℕ). refusal (runFaults s n (length old) k plan first)) long)
       (λ z m n hm hn.
@@ -65,11 +65,11 @@ module _ (s : Shape) (k plan first budget : ℕ) where
 
   module _ (stripe old : List ℕ) where
     -- any two results that the contract allows are equal
-    pub run-one : (a b : Counted) (x y : List ℕ) → RunsByPlan s k plan first budget stripe old a x → RunsByPlan s k plan first budget stripe old b y → (a ≡ b) × (x ≡ y)
-    run-one a b x y = same-reads stripe stripe old a b x y refl (record { same = λ c lc p t lt. refl })
+    pub run-one : (x y : List ℕ) (a b : Counted) → RunsByPlan s k plan first budget stripe old x a → RunsByPlan s k plan first budget stripe old y b → (a ≡ b) × (x ≡ y)
+    run-one x y a b = same-reads stripe stripe old x y a b refl (record { same = λ c lc p t lt. refl })
 
     -- a run with budget 0, or from past the last row, rebuilds nothing
-    pub run-nothing : (budget ≡ 0) ⊎ (first ≡ s .p - 1) → (n : ℕ) (x : List ℕ) → RunsByPlan s k plan first budget stripe old (Count n) x → (n ≡ 0) × (x ≡ old)
+    pub run-nothing : (budget ≡ 0) ⊎ (first ≡ s .p - 1) → (n : ℕ) (x : List ℕ) → RunsByPlan s k plan first budget stripe old x (Count n) → (n ≡ 0) × (x ≡ old)
     unfolding rowsRun
     run-nothing side n x h =
         let right = run-accepted s (length stripe) (length old) k plan first (sym (h .0)) in

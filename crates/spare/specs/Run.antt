@@ -56,10 +56,10 @@ unfoldable pub rowsRun : Shape → ℕ → ℕ → ℕ
 rowsRun s first budget = min budget (rows s - first)
 
 -- a run rebuilds so many rows of the spare from the first on and reports how many, or it answers the refusal and leaves every byte
-abbrev pub RunsByPlan : Shape → ℕ → ℕ → ℕ → ℕ → List ℕ → List ℕ → Counted → List ℕ → Type 0
-RunsByPlan s k plan first budget stripe old answer new =
+abbrev pub RunsByPlan : Shape → ℕ → ℕ → ℕ → ℕ → List ℕ → List ℕ → List ℕ → Counted → Type 0
+RunsByPlan s k plan first budget stripe old new =
     Answers (runFaults s (length stripe) (length old) k plan first) old new
-    (λ n. (n ≡ rowsRun s first budget) × RowsRebuilt s k plan first (rowsRun s first budget) stripe old new) answer
+    (λ n. (n ≡ rowsRun s first budget) × RowsRebuilt s k plan first (rowsRun s first budget) stripe old new)
 
 -- two stripes agree on the cells that a plan for column k reads
 pub record AgreeOnReads (s : Shape) (k plan : ℕ) (a b : List ℕ) : Type 0 where

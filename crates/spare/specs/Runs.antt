@@ -20,7 +20,7 @@ pub record Turn : Type 0 where
 -- one run that was not refused
 pub record Ran (s : Shape) (k : ℕ) (stripe : List ℕ) (turn : Turn) (old new : List ℕ) : Type 0 where
   pub count : ℕ
-  pub runs : RunsByPlan s k (turn .plan) (turn .first) (turn .budget) stripe old (Count count) new
+  pub runs : RunsByPlan s k (turn .plan) (turn .first) (turn .budget) stripe old new (Count count)
 
 -- the runs of a list, one after the other: each starts from the spare that the one before it left
 abbrev pub Runs : Shape → ℕ → List ℕ → List Turn → List ℕ → List ℕ → Type 0

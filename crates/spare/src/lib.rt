@@ -353,7 +353,7 @@ pub fn run(
     first: usize,
     budget: usize,
 ) -> Counted
-    ensures { λ r. ⌜ RunsByPlan shape k plan first budget (now (stripe .entry)) (now (spare .entry)) r (now (spare .exit)) ⌝ }
+    ensures { λ r. ⌜ RunsByPlan shape k plan first budget (now (stripe .entry)) (now (spare .entry)) (now (spare .exit)) r ⌝ }
 {
     let refusal = run_refusal(shape, stripe.len(), spare.len(), k, plan, first);
     if refusal != 0 {

@@ -37,12 +37,11 @@ broken-one s stripe a b ha hb =
     one-answer faults faults stripe stripe stripe is is refl (λ z m n em en. (em ∙ sym en, refl)) a b ha hb .0
 
 -- a small write
-pub write-one : (s : Shape) (row column : ℕ) (bytes old : List ℕ) (a b : Counted) (x y : List ℕ) → Writes s row column bytes old a x → Writes s row column bytes old b y → (a ≡ b) × (x ≡ y)
-write-one s row column bytes old a b x y =
+pub write-one : (s : Shape) (row column : ℕ) (bytes old : List ℕ) (x y : List ℕ) (a b : Counted) → Writes s row column bytes old x a → Writes s row column bytes old y b → (a ≡ b) × (x ≡ y)
+write-one s row column bytes old x y =
     let faults = writeFaults s (length old) row column (length bytes) in
     let cell = cellNumber s row column in
     one-answer faults faults old x y (λ n. Written s cell old bytes x × Depending s cell n) (λ n. Written s cell old bytes y × Depending s cell n) refl
     (λ z m n hm hn.
     let right = write-accepted s (length old) row column (length bytes) z in
     (one-count s (right .formed) cell m n (hm .1) (hn .1), one-write s (right .formed) cell old bytes x y (right .long) (hm .0) (hn .0)))
-    a b

@@ -42,7 +42,7 @@ pub record Depending (s : Shape) (c n : ℕ) : Type 0 where
   pub size : n ≡ count (cells s) (λ k. isParity s k && not (eqb (unit k) 0))
 
 -- a small write leaves the stripe so written and answers how many parity cells depend on the position, or it answers the refusal and leaves every byte
-abbrev pub Writes : Shape → ℕ → ℕ → List ℕ → List ℕ → Counted → List ℕ → Type 0
-Writes s row column bytes old answer new =
+abbrev pub Writes : Shape → ℕ → ℕ → List ℕ → List ℕ → List ℕ → Counted → Type 0
+Writes s row column bytes old new =
     Answers (writeFaults s (length old) row column (length bytes)) old new
-    (λ n. Written s (cellNumber s row column) old bytes new × Depending s (cellNumber s row column) n) answer
+    (λ n. Written s (cellNumber s row column) old bytes new × Depending s (cellNumber s row column) n)

@@ -106,7 +106,7 @@ fn write_cell(shape: Shape, stripe: &mut [u8], row: usize, column: usize, new: &
 // Small write: puts new bytes into a data cell, and into the parity cells that depend on it what the equations say.
 // Answers how many parity cells depend on the position, or refusal 1, 2, 4, 5, 6, 7 or 8.
 pub fn write(shape: Shape, stripe: &mut [u8], row: usize, column: usize, new: &[u8]) -> Counted
-    ensures { λ r. ⌜ Writes shape row column (now (new .entry)) (now (stripe .entry)) r (now (stripe .exit)) ⌝ }
+    ensures { λ r. ⌜ Writes shape row column (now (new .entry)) (now (stripe .entry)) (now (stripe .exit)) r ⌝ }
 {
     let number = codes::write_refusal(shape, stripe.len(), row, column, new.len());
     if number != 0 {

@@ -25,14 +25,13 @@ use Rattle.codes.proofs.Refused.{accepted, write-accepted}
 use Rattle.codes.proofs.Positions.{cell-inside}
 use Rattle.stripe.specs.Write.{Written, Depending}
 use Rattle.stripe.proofs.Encoding.{settled}
-use Rattle.stripe.proofs.Parts.{point}
-use Rattle.stripe.proofs.Exists.{unit-exists, written-by}
+use Rattle.stripe.proofs.Exists.{point, unit-exists, written-alone}
 use Rattle.codes.specs.Agree.{inColumns}
 use Rattle.decide.specs.Survivors.{named}
-use Rattle.rebuild.specs.declared.BadColumn.{BadColumn}
-use Rattle.rebuild.specs.declared.BadColumn.the-variants.{Clean, Column, Unexplained, Refused}
-use Rattle.rebuild.specs.Bad.{Replaceable, badNumber, Finding}
-use Rattle.rebuild.proofs.OneBad.{none-fails}
+use Rattle.bad.specs.declared.BadColumn.{BadColumn}
+use Rattle.bad.specs.declared.BadColumn.the-variants.{Clean, Column, Unexplained, Refused}
+use Rattle.bad.specs.Bad.{Replaceable, badNumber, Finding}
+use Rattle.bad.proofs.OneBad.{none-fails}
 use Rattle.rebuild.proofs.Never.{columns-determined}
 use Rattle.rebuild.proofs.Computed.{outcome, stops, stops-undetermined, passes-determined, fits, fits-restores, unfit-none}
 use Rattle.spare.specs.Plan.{diagonal, chosen, readsCell, cellsRead, byRule, isAccepted}
@@ -107,7 +106,7 @@ module _ (s : Shape) (stripe : List ℕ) (row column : ℕ) (bytes new : List �
   is-written : Written s c stripe bytes new
   unfolding unwritten differing
   is-written =
-      written-by s (right .formed) c inside plain stripe bytes new (eqb-true (length new) (length stripe) (and-left (eqb (length new) (length stripe)) (not (unwritten s c stripe bytes new) && eqb n (depending s c)) later))
+      written-alone s (right .formed) c inside plain stripe bytes new (eqb-true (length new) (length stripe) (and-left (eqb (length new) (length stripe)) (not (unwritten s c stripe bytes new) && eqb n (depending s c)) later))
       (λ k lk t lt. eqb-true (byteAt s new k t) (byteAt s stripe k t ⊕ differing s c stripe bytes t k)
       (not-false (eqb (byteAt s new k t) (byteAt s stripe k t ⊕ differing s c stripe bytes t k))
       (any-none (s .cell) (λ u. not (eqb (byteAt s new k u) (byteAt s stripe k u ⊕ differing s c stripe bytes u k)))

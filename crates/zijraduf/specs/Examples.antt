@@ -8,10 +8,10 @@ use Rattle.codes.specs.Shape.{rows, cellNumber, stripeLength, WellFormed}
 use Rattle.codes.specs.Encoded.{Encoded, brokenEquations}
 use Rattle.codes.specs.Refusals.{refusal}
 use Rattle.stripe.specs.Write.{Written, Depending}
-use Rattle.rebuild.specs.declared.BadColumn.{BadColumn}
-use Rattle.rebuild.specs.declared.BadColumn.the-variants.{Column, Unexplained}
+use Rattle.bad.specs.declared.BadColumn.{BadColumn}
+use Rattle.bad.specs.declared.BadColumn.the-variants.{Column, Unexplained}
 use Rattle.decide.specs.Survivors.{Undetermined, named}
-use Rattle.rebuild.specs.Bad.{Finds}
+use Rattle.bad.specs.Bad.{Finds}
 use Rattle.spare.specs.declared.PlanAnswer.the-variants.{Plan}
 use Rattle.spare.specs.Refusals.{runFaults}
 use Rattle.spare.specs.Run.{Plans}

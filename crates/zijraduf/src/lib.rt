@@ -1,16 +1,20 @@
 // The library for C: include/zijraduf.h declares these functions. Each hands its arguments to the Rattle call and answers as that does.
+ghost use mathlib.Core.Path.{_≡_};
 ghost use lib.ListN.{length};
 ghost use Rattle.stripe.specs.Encode.{Encodes};
+ghost use Rattle.stripe.specs.Broken.{Counts};
+ghost use Rattle.stripe.specs.Write.{Writes};
+ghost use Rattle.bad.specs.Bad.{Finds};
+ghost use Rattle.spare.specs.Run.{Plans, RunsByPlan};
+ghost use Rattle.spare.specs.Show.{Shown};
 ghost use Rattle.jobs.specs.Answer.{AnswersInto};
 ghost use Rattle.rebuild.specs.Rebuild.{RebuildsCells, RebuildsColumns};
-ghost use Rattle.zijraduf.specs.Export.{CountsBroken, WritesCounted, FindsInNumbers, PlansInNumbers, RunsInNumbers, ShowsInNumbers};
+ghost use Rattle.zijraduf.specs.Export.{InNumbers, countInNumbers, foundInNumbers, planInNumbers, shownInNumbers};
+use bad::BadColumn;
+use codes::Counted;
 use codes::Shape;
-use rebuild::BadColumn;
 use spare::PlanAnswer;
-use spare::RunAnswer;
 use spare::ShownAt;
-use stripe::BrokenCount;
-use stripe::WriteCount;
 
 // A refusal number, or 0 and a count.
 #[repr(C)]
@@ -44,6 +48,16 @@ pub struct Part {
     pub length: usize,
 }
 
+// A count or a refusal in two numbers.
+fn in_numbers(answer: Counted) -> Count
+    ensures { λ r. ⌜ r ≡ countInNumbers answer ⌝ }
+{
+    match answer {
+        Counted::Count(count) => Count { refusal: 0, count },
+        Counted::Refused(refusal) => Count { refusal, count: 0 },
+    }
+}
+
 // Encode.
 #[no_mangle]
 pub extern "C" fn zijraduf_encode(shape: Shape, stripe: &mut [u8]) -> usize
@@ -55,12 +69,9 @@ pub extern "C" fn zijraduf_encode(shape: Shape, stripe: &mut [u8]) -> usize
 // Broken.
 #[no_mangle]
 pub extern "C" fn zijraduf_broken(shape: Shape, stripe: &[u8]) -> Count
-    ensures { λ r. ⌜ CountsBroken shape (now (stripe .entry)) r ⌝ }
+    ensures { λ r. ⌜ InNumbers countInNumbers (Counts shape (now (stripe .entry))) r ⌝ }
 {
-    match stripe::broken(shape, stripe) {
-        BrokenCount::Equations(count) => Count { refusal: 0, count },
-        BrokenCount::Refused(refusal) => Count { refusal, count: 0 },
-    }
+    in_numbers(stripe::broken(shape, stripe))
 }
 
 // Small write.
@@ -72,12 +83,9 @@ pub extern "C" fn zijraduf_write(
     column: usize,
     bytes: &[u8],
 ) -> Count
-    ensures { λ r. ⌜ WritesCounted shape row column (now (bytes .entry)) (now (stripe .entry)) r (now (stripe .exit)) ⌝ }
+    ensures { λ r. ⌜ InNumbers countInNumbers (Writes shape row column (now (bytes .entry)) (now (stripe .entry)) (now (stripe .exit))) r ⌝ }
 {
-    match stripe::write(shape, stripe, row, column, bytes) {
-        WriteCount::ParityCells(count) => Count { refusal: 0, count },
-        WriteCount::Refused(refusal) => Count { refusal, count: 0 },
-    }
+    in_numbers(stripe::write(shape, stripe, row, column, bytes))
 }
 
 // Rebuild cells.
@@ -104,9 +112,9 @@ pub extern "C" fn zijraduf_rebuild_columns(
 // Bad column.
 #[no_mangle]
 pub extern "C" fn zijraduf_bad_column(shape: Shape, stripe: &[u8]) -> Found
-    ensures { λ r. ⌜ FindsInNumbers shape (now (stripe .entry)) r ⌝ }
+    ensures { λ r. ⌜ InNumbers foundInNumbers (Finds shape (now (stripe .entry))) r ⌝ }
 {
-    match rebuild::bad_column(shape, stripe) {
+    match bad::bad_column(shape, stripe) {
         BadColumn::Clean => Found {
             refusal: 0,
             finding: 1,
@@ -133,7 +141,7 @@ pub extern "C" fn zijraduf_bad_column(shape: Shape, stripe: &[u8]) -> Found
 // Plan.
 #[no_mangle]
 pub extern "C" fn zijraduf_plan(shape: Shape, k: usize) -> Planned
-    ensures { λ r. ⌜ PlansInNumbers shape k r ⌝ }
+    ensures { λ r. ⌜ InNumbers planInNumbers (Plans shape k) r ⌝ }
 {
     match spare::plan(shape, k) {
         PlanAnswer::Plan(plan) => Planned {
@@ -160,12 +168,9 @@ pub extern "C" fn zijraduf_run(
     first: usize,
     budget: usize,
 ) -> Count
-    ensures { λ r. ⌜ RunsInNumbers shape k plan first budget (now (stripe .entry)) (now (spare .entry)) r (now (spare .exit)) ⌝ }
+    ensures { λ r. ⌜ InNumbers countInNumbers (RunsByPlan shape k plan first budget (now (stripe .entry)) (now (spare .entry)) (now (spare .exit))) r ⌝ }
 {
-    match spare::run(shape, stripe, k, plan, spare, first, budget) {
-        RunAnswer::Rows(count) => Count { refusal: 0, count },
-        RunAnswer::Refused(refusal) => Count { refusal, count: 0 },
-    }
+    in_numbers(spare::run(shape, stripe, k, plan, spare, first, budget))
 }
 
 // Show.
@@ -179,7 +184,7 @@ pub extern "C" fn zijraduf_show(
     row: usize,
     column: usize,
 ) -> Part
-    ensures { λ r. ⌜ ShowsInNumbers shape (length (now (stripe .entry))) (length (now (spare .entry))) k done row column r ⌝ }
+    ensures { λ r. ⌜ InNumbers (shownInNumbers shape) (Shown shape (length (now (stripe .entry))) (length (now (spare .entry))) k done row column) r ⌝ }
 {
     let length = shape.cell;
     match spare::shown_at(shape, stripe.len(), spare.len(), k, done, row, column) {

@@ -1,6 +1,6 @@
 -- `zijraduf::zijraduf_bad_column` meets its contract. Each case of the answer becomes its three numbers.
-use Rattle.rebuild.specs.declared.BadColumn.the-variants.{Clean, Column, Unexplained, Refused}
-use Rattle.zijraduf.proofs.Export.{from-finding}
+use Rattle.bad.specs.declared.BadColumn.the-variants.{Clean, Column, Unexplained, Refused}
+use Rattle.zijraduf.proofs.Export.{in-numbers}
 use borrow.Author.Needs.{needs}
 use Rattle.zijraduf.proofs.zijraduf_bad_column.Statement.{statement}
 use Rattle.zijraduf.proofs.zijraduf_bad_column.Tie as tie
@@ -21,16 +21,16 @@ enum-known-refusal : tie.Need-enum-known-refusal
 enum-known-refusal c = search needs
 
 returns : tie.Need-returns
-returns c = from-finding _ _ _ Clean (c .before .before .bad-column .ensures) (c .enum-told .given .1)
+returns c = in-numbers _ _ _ Clean (c .before .before .bad-column .ensures) (c .enum-told .given .1)
 
 returns-2 : tie.Need-returns-2
-returns-2 c = from-finding _ _ _ (Column _) (c .before .before .before .bad-column .ensures) (c .before .column .given .1)
+returns-2 c = in-numbers _ _ _ (Column _) (c .before .before .before .bad-column .ensures) (c .before .column .given .1)
 
 returns-3 : tie.Need-returns-3
-returns-3 c = from-finding _ _ _ Unexplained (c .before .before .bad-column .ensures) (c .enum-told2 .given .1)
+returns-3 c = in-numbers _ _ _ Unexplained (c .before .before .bad-column .ensures) (c .enum-told2 .given .1)
 
 returns-4 : tie.Need-returns-4
-returns-4 c = from-finding _ _ _ (Refused _) (c .before .before .before .bad-column .ensures) (c .before .refusal .given .1)
+returns-4 c = in-numbers _ _ _ (Refused _) (c .before .before .before .bad-column .ensures) (c .before .refusal .given .1)
 
 pub zijraduf-bad-column-spec : {M : Type 1} → statement M
 zijraduf-bad-column-spec =

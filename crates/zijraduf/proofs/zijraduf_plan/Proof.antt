@@ -1,6 +1,6 @@
 -- `zijraduf::zijraduf_plan` meets its contract. Each case of the answer becomes its three numbers.
 use Rattle.spare.specs.declared.PlanAnswer.the-variants.{Plan, Refused}
-use Rattle.zijraduf.proofs.Export.{from-plan}
+use Rattle.zijraduf.proofs.Export.{in-numbers}
 use borrow.Author.Needs.{needs}
 use Rattle.zijraduf.proofs.zijraduf_plan.Statement.{statement}
 use Rattle.zijraduf.proofs.zijraduf_plan.Tie as tie
@@ -15,10 +15,10 @@ enum-known-refusal : tie.Need-enum-known-refusal
 enum-known-refusal c = search needs
 
 returns : tie.Need-returns
-returns c = from-plan _ _ _ (Plan _) (c .before .before .before .plan .ensures) (c .before .plan2 .given .1)
+returns c = in-numbers _ _ _ (Plan _) (c .before .before .before .plan .ensures) (c .before .plan2 .given .1)
 
 returns-2 : tie.Need-returns-2
-returns-2 c = from-plan _ _ _ (Refused _) (c .before .before .before .plan .ensures) (c .before .refusal .given .1)
+returns-2 c = in-numbers _ _ _ (Refused _) (c .before .before .before .plan .ensures) (c .before .refusal .given .1)
 
 pub zijraduf-plan-spec : {M : Type 1} → statement M
 zijraduf-plan-spec =

@@ -1,6 +1,6 @@
 -- `zijraduf::zijraduf_show` meets its contract. Each case of the answer becomes its four numbers.
 use Rattle.spare.specs.declared.ShownAt.the-variants.{Stripe, Spare, Refused}
-use Rattle.zijraduf.proofs.Export.{from-shown}
+use Rattle.zijraduf.proofs.Export.{in-numbers}
 use borrow.Author.Needs.{needs}
 use Rattle.zijraduf.proofs.zijraduf_show.Statement.{statement}
 use Rattle.zijraduf.proofs.zijraduf_show.Tie as tie
@@ -18,13 +18,13 @@ enum-known-refusal : tie.Need-enum-known-refusal
 enum-known-refusal c = search needs
 
 returns : tie.Need-returns
-returns c = from-shown _ _ _ _ _ _ _ _ (Stripe _) (c .before .before .before .shown-at .ensures) (c .before .offset .given .1)
+returns c = in-numbers _ _ _ (Stripe _) (c .before .before .before .shown-at .ensures) (c .before .offset .given .1)
 
 returns-2 : tie.Need-returns-2
-returns-2 c = from-shown _ _ _ _ _ _ _ _ (Spare _) (c .before .before .before .shown-at .ensures) (c .before .offset2 .given .1)
+returns-2 c = in-numbers _ _ _ (Spare _) (c .before .before .before .shown-at .ensures) (c .before .offset2 .given .1)
 
 returns-3 : tie.Need-returns-3
-returns-3 c = from-shown _ _ _ _ _ _ _ _ (Refused _) (c .before .before .before .shown-at .ensures) (c .before .refusal .given .1)
+returns-3 c = in-numbers _ _ _ (Refused _) (c .before .before .before .shown-at .ensures) (c .before .refusal .given .1)
 
 pub zijraduf-show-spec : {M : Type 1} → statement M
 zijraduf-show-spec =
