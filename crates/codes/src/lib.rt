@@ -5,7 +5,7 @@ ghost use Prim.Native.Nat.{ℕ, _+_, _%_, _≤_, _<_};
 ghost use lib.ListN.{length, getD};
 ghost use Rattle.xor.specs.Runs.{Says};
 ghost use Rattle.codes.specs.Shape.{listed, rows, columns, cells, equations, cellNumber, stripeLength, WellFormed};
-ghost use Rattle.codes.specs.Geometry.{place};
+ghost use Rattle.codes.specs.Geometry.{cellAt, place};
 ghost use Rattle.codes.specs.Encoded.{parityCell, isParity};
 ghost use Rattle.codes.specs.Refusals.{refusal, codeFaults, sizeFaults, shapeFaults, stripeFaults, writeFaults, cellsFaults, columnsFaults};
 ghost use Rattle.codes.specs.Lines.{Lies, Walks, Placed, Found, Holding};
@@ -262,6 +262,14 @@ pub fn parity_place(shape: Shape, q: usize) -> usize
     cell_place(shape, l.level, l.parity)
 }
 
+// Whether the cell in a row and in the column that a caller calls d is a parity cell.
+fn parity_at(shape: Shape, row: usize, d: usize) -> bool
+    requires { ⌜ WellFormed shape × (row < rows shape) × (d < columns shape) ⌝ }
+    ensures { λ r. ⌜ r ≡ isParity shape (cellAt shape row d) ⌝ }
+{
+    is_parity(shape, row, column_of(shape, d))
+}
+
 // The refusal of a small write: the lowest number that applies, or 0.
 pub fn write_refusal(shape: Shape, bytes: usize, row: usize, column: usize, new: usize) -> usize
     ensures { λ r. ⌜ r ≡ refusal (writeFaults shape bytes row column new) ⌝ }
@@ -276,7 +284,7 @@ pub fn write_refusal(shape: Shape, bytes: usize, row: usize, column: usize, new:
     if column_count(shape) <= column {
         return 6;
     }
-    if is_parity(shape, row, column) {
+    if parity_at(shape, row, column) {
         return 7;
     }
     if new != shape.cell {
