@@ -24,6 +24,15 @@ pub use layout::column_place;
 pub use layout::lies_at;
 pub use layout::place_of;
 
+// Most cells of a stripe.
+pub const CELLS: usize = 961;
+
+// Most bytes in a cell.
+const MOST_CELL: usize = 4096;
+
+// Room for the places of an equation's cells.
+pub const PLACES: usize = 32;
+
 // What describes a stripe: the code (1 RDP, 2 H-Code, 3 X-Code), the prime, and the bytes in a cell. Any numbers may stand here.
 #[repr(C)]
 pub struct Shape {
@@ -156,7 +165,7 @@ pub fn size_refusal(shape: Shape) -> usize
     if shape.cell == 0 {
         return 4;
     }
-    if 4096 < shape.cell {
+    if MOST_CELL < shape.cell {
         return 4;
     }
     0
@@ -211,7 +220,7 @@ fn line_of(shape: Shape, q: usize) -> Line
 }
 
 // Fills in where in the stripe's bytes the cells of a line start.
-fn place_cells(shape: Shape, l: Line, places: &mut [usize; 32])
+fn place_cells(shape: Shape, l: Line, places: &mut [usize; PLACES])
     requires { ⌜ WellFormed shape × Lies shape l × (length (now places) ≡ 32) ⌝ }
     ensures { λ _. ⌜ Placed shape l (now (places .exit)) ⌝ }
 {
@@ -231,7 +240,7 @@ fn place_cells(shape: Shape, l: Line, places: &mut [usize; 32])
 }
 
 // Where the parity cell of equation q starts; where the cells start whose XOR it is goes into `places`.
-pub fn sources_of(shape: Shape, q: usize, places: &mut [usize; 32]) -> Sources
+pub fn sources_of(shape: Shape, q: usize, places: &mut [usize; PLACES]) -> Sources
     requires { ⌜ WellFormed shape × (q < equations shape) × (length (now places) ≡ 32) ⌝ }
     ensures { λ r. ⌜ Found shape q r (now (places .exit)) ⌝ }
 {
@@ -243,7 +252,7 @@ pub fn sources_of(shape: Shape, q: usize, places: &mut [usize; 32]) -> Sources
 }
 
 // Fills in where all cells of equation q start, those that it sums and then its parity cell, and answers how many they are.
-pub fn cells_of(shape: Shape, q: usize, places: &mut [usize; 32]) -> usize
+pub fn cells_of(shape: Shape, q: usize, places: &mut [usize; PLACES]) -> usize
     requires { ⌜ WellFormed shape × (q < equations shape) × (length (now places) ≡ 32) ⌝ }
     ensures { λ r. ⌜ Holding shape q r (now (places .exit)) ⌝ }
 {
