@@ -22,12 +22,12 @@ pub enum BadColumn {
 }
 
 // The totals of all equations in byte t.
-fn totals_at(shape: Shape, stripe: &[u8], t: usize) -> [u8; 64]
+fn totals_at(shape: Shape, stripe: &[u8], t: usize) -> [u8; bits::ROOM]
     requires { ⌜ WellFormed shape × (length (now stripe) ≡ stripeLength shape) × (t < shape .cell) ⌝ }
     ensures { λ r. ⌜ TotalsOf shape (bytesAt shape (now (stripe .entry)) t) r ⌝ }
 {
     let n = codes::equation_count(shape);
-    let mut totals = [0u8; 64];
+    let mut totals = [0u8; bits::ROOM];
     let mut q = 0;
     while q < n {
         totals[q] = equation::total_byte(shape, stripe, q, t);
@@ -37,7 +37,7 @@ fn totals_at(shape: Shape, stripe: &[u8], t: usize) -> [u8; 64]
 }
 
 // XORs x into the totals of the equations in a set.
-fn add_to(totals: &mut [u8; 64], set: u64, x: u8)
+fn add_to(totals: &mut [u8; bits::ROOM], set: u64, x: u8)
     requires { ⌜ length (now totals) ≡ 64 ⌝ }
     ensures { λ _. ⌜ Added (now (totals .entry)) set x (now (totals .exit)) ⌝ }
 {
@@ -51,7 +51,7 @@ fn add_to(totals: &mut [u8; 64], set: u64, x: u8)
 
 // What is left of the totals when each cell of a column takes in the total of the lowest equation that holds it.
 // Where the column alone is wrong, that is how its cells differ from the right ones, and nothing is left.
-fn without_column(shape: Shape, totals: [u8; 64], column: usize) -> [u8; 64]
+fn without_column(shape: Shape, totals: [u8; bits::ROOM], column: usize) -> [u8; bits::ROOM]
     requires { ⌜ WellFormed shape × (column < columns shape) ⌝ }
     ensures { λ r. ⌜ Without shape totals column (rows shape) r ⌝ }
 {
@@ -69,7 +69,7 @@ fn without_column(shape: Shape, totals: [u8; 64], column: usize) -> [u8; 64]
 }
 
 // The first column without which nothing is left of the totals; the number of columns where there is none.
-fn candidate(shape: Shape, totals: [u8; 64]) -> usize
+fn candidate(shape: Shape, totals: [u8; bits::ROOM]) -> usize
     requires { ⌜ WellFormed shape ⌝ }
     ensures { λ r. ⌜ Candidate shape totals r ⌝ }
 {
@@ -100,14 +100,14 @@ fn column_agrees(shape: Shape, stripe: &[u8], column: usize, at: usize, n: usize
     ensures { λ r. ⌜ Says (ExplainsIn shape (now (stripe .entry)) at n column) r ⌝ }
 {
     let map = decide::mark_columns(shape, column, column);
-    let mut listed = [0usize; 64];
-    let mut sets = [0u64; 64];
-    let mut checks = [0u64; 64];
+    let mut listed = [0usize; bits::ROOM];
+    let mut sets = [0u64; bits::ROOM];
+    let mut checks = [0u64; bits::ROOM];
     let d = decide::decide(shape, map, &mut listed, &mut sets, &mut checks);
     let Decided::Solved { lost: _, checks: v } = d else {
         return false;
     };
-    let mut lanes = [0u8; 32768];
+    let mut lanes = [0u8; lanes::LANES];
     lanes::survivors_agree(shape, stripe, &checks, v, at, n, &mut lanes)
 }
 

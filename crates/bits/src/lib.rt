@@ -5,6 +5,9 @@ ghost use Prim.Native.Nat.{_^_, _≤_, _<_};
 ghost use lib.ListN.{length};
 ghost use Rattle.bits.specs.Bit.{bit, IsLowest, Members, Union};
 
+// Room for the members of a set.
+pub const ROOM: usize = 64;
+
 // The lowest member of a set that is not empty.
 pub fn lowest_bit(mask: u64) -> u32
     requires { ⌜ mask ≢ 0 ⌝ }
@@ -22,7 +25,7 @@ pub fn one_bit(q: usize) -> u64
 }
 
 // Lists the members of a set by rising number, each times `apart`. Answers how many they are.
-pub fn list_members(set: u64, apart: usize, list: &mut [usize; 64]) -> usize
+pub fn list_members(set: u64, apart: usize, list: &mut [usize; ROOM]) -> usize
     requires { ⌜ (length (now list) ≡ 64) × (apart ≤ 512) ⌝ }
     ensures { λ r. ⌜ Members set apart r (now (list .exit)) ⌝ }
 {
@@ -38,7 +41,7 @@ pub fn list_members(set: u64, apart: usize, list: &mut [usize; 64]) -> usize
 }
 
 // The union of the first n sets.
-pub fn union(sets: &[u64; 64], n: usize) -> u64
+pub fn union(sets: &[u64; ROOM], n: usize) -> u64
     requires { ⌜ (length (now sets) ≡ 64) × (n ≤ 64) ⌝ }
     ensures { λ r. ⌜ Union n (now (sets .entry)) r ⌝ }
 {

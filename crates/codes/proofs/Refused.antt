@@ -12,10 +12,12 @@ use Rattle.xor.specs.Sets.{any}
 use Rattle.xor.proofs.Cases.{by-test}
 use Rattle.xor.proofs.Sets.{any-none, none-any}
 use Rattle.codes.specs.declared.Shape.{Shape}
-use Rattle.codes.specs.Shape.{rows, columns, cells, cellNumber, stripeLength, WellFormed}
+use Rattle.codes.specs.Shape.{rows, columns, cells, stripeLength, WellFormed}
+use Rattle.codes.specs.Geometry.{columnOf, cellAt}
 use Rattle.codes.specs.Encoded.{isParity}
 use Rattle.codes.specs.Refusals.{fault, outside, otherLength, order, refusal, codeFaults, sizeFaults, shapeFaults, stripeFaults, writeFaults, cellsFaults, columnsFaults}
 use Rattle.codes.specs.Depends.{WriteRight}
+use Rattle.codes.proofs.Geometry.{column-there}
 use Rattle.codes.proofs.Order.{None, Gives, After, after, alone, gives, none-of}
 
 -- ---- a shape
@@ -68,22 +70,25 @@ module _ (s : Shape) (bytes : ℕ) where
 
 module _ (s : Shape) (bytes row column new : ℕ) where
   pub write-after : After (stripeFaults s bytes)
-      (outside row (rows s) ∷ outside column (columns s) ∷ fault 7 (isParity s (cellNumber s row column)) ∷ fault 8 (not (eqb new (s .cell))) ∷ [])
+      (outside row (rows s) ∷ outside column (columns s) ∷ fault 7 (isParity s (cellAt s row column)) ∷ fault 8 (not (eqb new (s .cell))) ∷ [])
       (writeFaults s bytes row column new)
   unfolding writeFaults stripeFaults shapeFaults order
   write-after = after (stripeFaults s bytes) _ refl refl
 
   -- a small write that is not refused is right
-  pub write-accepted : refusal (writeFaults s bytes row column new) ≡ 0 → WriteRight s bytes row column new
+  pub write-accepted : refusal (writeFaults s bytes row column new) ≡ 0 → (column < columns s) × WriteRight s bytes row (columnOf s column) new
   write-accepted none =
       let n = write-after .none none in
       let formed = accepted s bytes (n .0) in
-      record {
-        formed = formed .0;
-        long = formed .1;
-        cell = record { low = leb-false (rows s) row (n .1 .0); right = leb-false (columns s) column (n .1 .1 .0); plain = n .1 .1 .1 .0 };
-        whole = eqb-true new (s .cell) (not-false _ (n .1 .1 .1 .1 .0));
-      }
+      let inside = leb-false (columns s) column (n .1 .1 .0) in (
+        inside,
+        record {
+          formed = formed .0;
+          long = formed .1;
+          cell = record { low = leb-false (rows s) row (n .1 .0); right = column-there s column inside; plain = n .1 .1 .1 .0 };
+          whole = eqb-true new (s .cell) (not-false _ (n .1 .1 .1 .1 .0));
+        },
+      )
 
 -- ---- a call that names cells or columns
 

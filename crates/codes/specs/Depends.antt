@@ -15,7 +15,7 @@ pub record DataCell (s : Shape) (row column : ℕ) : Type 0 where
   pub right : column < columns s
   pub plain : isParity s (cellNumber s row column) ≡ false
 
--- a small write that is not refused: a well-formed stripe of the right length, a data cell, and new bytes of a cell's length
+-- a small write that can be made: a well-formed stripe of the right length, a data cell by its row and column, and new bytes of a cell's length
 pub record WriteRight (s : Shape) (bytes row column new : ℕ) : Type 0 where
   pub formed : WellFormed s
   pub long : bytes ≡ stripeLength s

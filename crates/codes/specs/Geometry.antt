@@ -11,9 +11,13 @@ columnOf s d = d
 unfoldable pub liesAt : Shape → ℕ → ℕ
 liesAt s j = j
 
+-- the cell in a row and in the column that a caller calls d
+abbrev pub cellAt : Shape → ℕ → ℕ → ℕ
+cellAt s row d = cellNumber s row (columnOf s d)
+
 -- the equations' number of the cell that a caller calls c
 unfoldable pub cellOf : Shape → ℕ → ℕ
-cellOf s c = cellNumber s (c % rows s) (columnOf s (c / rows s))
+cellOf s c = cellAt s (c % rows s) (c / rows s)
 
 -- what a caller calls cell c
 unfoldable pub callersCell : Shape → ℕ → ℕ

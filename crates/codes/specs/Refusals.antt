@@ -6,7 +6,8 @@ use lib.Dec.{eqb, leb, ltb}
 use lib.ListN.{length, getD}
 use Rattle.xor.specs.Sets.{any}
 use Rattle.codes.specs.declared.Shape.{Shape}
-use Rattle.codes.specs.Shape.{listed, rows, columns, cells, cellNumber, stripeLength}
+use Rattle.codes.specs.Shape.{listed, rows, columns, cells, stripeLength}
+use Rattle.codes.specs.Geometry.{cellAt}
 use Rattle.codes.specs.Encoded.{isParity}
 
 -- a refusal's number, and whether it applies
@@ -64,7 +65,7 @@ outside n bound = fault 6 (leb bound n)
 unfoldable pub writeFaults : Shape → ℕ → ℕ → ℕ → ℕ → List Fault
 writeFaults s bytes row column new =
     stripeFaults s bytes
-    ++ outside row (rows s) ∷ outside column (columns s) ∷ fault 7 (isParity s (cellNumber s row column)) ∷ fault 8 (not (eqb new (s .cell))) ∷ []
+    ++ outside row (rows s) ∷ outside column (columns s) ∷ fault 7 (isParity s (cellAt s row column)) ∷ fault 8 (not (eqb new (s .cell))) ∷ []
 
 -- the refusals of a rebuild of the cells that a list names
 unfoldable pub cellsFaults : Shape → ℕ → List ℕ → List Fault

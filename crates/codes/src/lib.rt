@@ -5,7 +5,7 @@ ghost use Prim.Native.Nat.{ℕ, _+_, _%_, _≤_, _<_};
 ghost use lib.ListN.{length, getD};
 ghost use Rattle.xor.specs.Runs.{Says};
 ghost use Rattle.codes.specs.Shape.{listed, rows, columns, cells, equations, cellNumber, stripeLength, WellFormed};
-ghost use Rattle.codes.specs.Geometry.{place};
+ghost use Rattle.codes.specs.Geometry.{cellAt, place};
 ghost use Rattle.codes.specs.Encoded.{parityCell, isParity};
 ghost use Rattle.codes.specs.Refusals.{refusal, codeFaults, sizeFaults, shapeFaults, stripeFaults, writeFaults, cellsFaults, columnsFaults};
 ghost use Rattle.codes.specs.Lines.{Lies, Walks, Placed, Found, Holding};
@@ -23,6 +23,15 @@ pub use layout::column_of;
 pub use layout::column_place;
 pub use layout::lies_at;
 pub use layout::place_of;
+
+// Most cells of a stripe.
+pub const CELLS: usize = 961;
+
+// Most bytes in a cell.
+const MOST_CELL: usize = 4096;
+
+// Room for the places of an equation's cells.
+pub const PLACES: usize = 32;
 
 // What describes a stripe: the code (1 RDP, 2 H-Code, 3 X-Code), the prime, and the bytes in a cell. Any numbers may stand here.
 #[repr(C)]
@@ -156,7 +165,7 @@ pub fn size_refusal(shape: Shape) -> usize
     if shape.cell == 0 {
         return 4;
     }
-    if 4096 < shape.cell {
+    if MOST_CELL < shape.cell {
         return 4;
     }
     0
@@ -211,7 +220,7 @@ fn line_of(shape: Shape, q: usize) -> Line
 }
 
 // Fills in where in the stripe's bytes the cells of a line start.
-fn place_cells(shape: Shape, l: Line, places: &mut [usize; 32])
+fn place_cells(shape: Shape, l: Line, places: &mut [usize; PLACES])
     requires { ⌜ WellFormed shape × Lies shape l × (length (now places) ≡ 32) ⌝ }
     ensures { λ _. ⌜ Placed shape l (now (places .exit)) ⌝ }
 {
@@ -231,7 +240,7 @@ fn place_cells(shape: Shape, l: Line, places: &mut [usize; 32])
 }
 
 // Where the parity cell of equation q starts; where the cells start whose XOR it is goes into `places`.
-pub fn sources_of(shape: Shape, q: usize, places: &mut [usize; 32]) -> Sources
+pub fn sources_of(shape: Shape, q: usize, places: &mut [usize; PLACES]) -> Sources
     requires { ⌜ WellFormed shape × (q < equations shape) × (length (now places) ≡ 32) ⌝ }
     ensures { λ r. ⌜ Found shape q r (now (places .exit)) ⌝ }
 {
@@ -243,7 +252,7 @@ pub fn sources_of(shape: Shape, q: usize, places: &mut [usize; 32]) -> Sources
 }
 
 // Fills in where all cells of equation q start, those that it sums and then its parity cell, and answers how many they are.
-pub fn cells_of(shape: Shape, q: usize, places: &mut [usize; 32]) -> usize
+pub fn cells_of(shape: Shape, q: usize, places: &mut [usize; PLACES]) -> usize
     requires { ⌜ WellFormed shape × (q < equations shape) × (length (now places) ≡ 32) ⌝ }
     ensures { λ r. ⌜ Holding shape q r (now (places .exit)) ⌝ }
 {
@@ -262,6 +271,14 @@ pub fn parity_place(shape: Shape, q: usize) -> usize
     cell_place(shape, l.level, l.parity)
 }
 
+// Whether the cell in a row and in the column that a caller calls d is a parity cell.
+fn parity_at(shape: Shape, row: usize, d: usize) -> bool
+    requires { ⌜ WellFormed shape × (row < rows shape) × (d < columns shape) ⌝ }
+    ensures { λ r. ⌜ r ≡ isParity shape (cellAt shape row d) ⌝ }
+{
+    is_parity(shape, row, column_of(shape, d))
+}
+
 // The refusal of a small write: the lowest number that applies, or 0.
 pub fn write_refusal(shape: Shape, bytes: usize, row: usize, column: usize, new: usize) -> usize
     ensures { λ r. ⌜ r ≡ refusal (writeFaults shape bytes row column new) ⌝ }
@@ -276,7 +293,7 @@ pub fn write_refusal(shape: Shape, bytes: usize, row: usize, column: usize, new:
     if column_count(shape) <= column {
         return 6;
     }
-    if is_parity(shape, row, column) {
+    if parity_at(shape, row, column) {
         return 7;
     }
     if new != shape.cell {

@@ -9,9 +9,6 @@ ghost use Rattle.decide.specs.Solver.{lostIn, Listed, Rows, Gathered, De
 use codes::Shape;
 use solve::Eliminated;
 
-// The most cells that a stripe has.
-pub const CELLS: usize = 961;
-
 // What was decided of a set of lost cells: the survivors determine them, and this is how many there are and how many checks the survivors have to
 // pass; or they leave them open.
 pub enum Decided {
@@ -20,11 +17,11 @@ pub enum Decided {
 }
 
 // The map of the cells that a caller's list names.
-pub fn mark_cells(shape: Shape, lost: &[usize]) -> [bool; CELLS]
+pub fn mark_cells(shape: Shape, lost: &[usize]) -> [bool; codes::CELLS]
     requires { ⌜ WellFormed shape × ((k : ℕ) → k < length (now lost) → getD (now lost) k 0 < cells shape) ⌝ }
     ensures { λ r. ⌜ ((c : ℕ) → lostIn r c ≡ named shape (now (lost .entry)) c) ⌝ }
 {
-    let mut map = [false; CELLS];
+    let mut map = [false; codes::CELLS];
     let mut k = 0;
     while k < lost.len() {
         let c = codes::cell_of(shape, lost[k]);
@@ -35,12 +32,12 @@ pub fn mark_cells(shape: Shape, lost: &[usize]) -> [bool; CELLS]
 }
 
 // The map of the cells in columns a and b, as the equations number them.
-pub fn mark_columns(shape: Shape, a: usize, b: usize) -> [bool; CELLS]
+pub fn mark_columns(shape: Shape, a: usize, b: usize) -> [bool; codes::CELLS]
     requires { ⌜ WellFormed shape × (a < columns shape) × (b < columns shape) ⌝ }
     ensures { λ r. ⌜ ((c : ℕ) → c < cells shape → lostIn r c ≡ inColumns shape a b c) ⌝ }
 {
     let n = codes::row_count(shape);
-    let mut map = [false; CELLS];
+    let mut map = [false; codes::CELLS];
     let mut i = 0;
     while i < n {
         map[a * n + i] = true;
@@ -51,7 +48,7 @@ pub fn mark_columns(shape: Shape, a: usize, b: usize) -> [bool; CELLS]
 }
 
 // Lists the lost cells by rising number. Answers how many there are, or one more than there are equations where there are more than these.
-fn list_lost(shape: Shape, map: [bool; CELLS], listed: &mut [usize; solve::ROOM]) -> usize
+fn list_lost(shape: Shape, map: [bool; codes::CELLS], listed: &mut [usize; bits::ROOM]) -> usize
     requires { ⌜ WellFormed shape × (length (now listed) ≡ 64) ⌝ }
     ensures { λ r. ⌜ Listed shape map r (now (listed .exit)) ⌝ }
 {
@@ -75,9 +72,9 @@ fn list_lost(shape: Shape, map: [bool; CELLS], listed: &mut [usize; solve::ROOM]
 // Fills in for each equation the set of the lost cells that it holds: bit k for lost cell number k.
 fn hold_lost(
     shape: Shape,
-    listed: &[usize; solve::ROOM],
+    listed: &[usize; bits::ROOM],
     lost: usize,
-    rows: &mut [u64; solve::ROOM],
+    rows: &mut [u64; bits::ROOM],
 )
     requires { ⌜ WellFormed shape × (lost ≤ 64) × ((k : ℕ) → k < lost → getD (now listed) k 0 < cells shape) × (length (now listed) ≡ 64)
         × (length (now rows) ≡ 64) × ((q : ℕ) → getD (now rows) q 0 ≡ 0) ⌝ }
@@ -96,10 +93,10 @@ fn hold_lost(
 
 // For each of the first n numbers of a list the source that it names.
 fn gather(
-    list: &[usize; solve::ROOM],
-    sources: &[u64; solve::ROOM],
+    list: &[usize; bits::ROOM],
+    sources: &[u64; bits::ROOM],
     n: usize,
-    sets: &mut [u64; solve::ROOM],
+    sets: &mut [u64; bits::ROOM],
 )
     requires { ⌜ (n ≤ 64) × (length (now list) ≡ 64) × (length (now sources) ≡ 64) × (length (now sets) ≡ 64)
         × ((k : ℕ) → k < n → getD (now list) k 0 < 64) ⌝ }
@@ -116,10 +113,10 @@ fn gather(
 // equations that gives it, and the sets that check the survivors.
 pub fn decide(
     shape: Shape,
-    map: [bool; CELLS],
-    listed: &mut [usize; solve::ROOM],
-    sets: &mut [u64; solve::ROOM],
-    checks: &mut [u64; solve::ROOM],
+    map: [bool; codes::CELLS],
+    listed: &mut [usize; bits::ROOM],
+    sets: &mut [u64; bits::ROOM],
+    checks: &mut [u64; bits::ROOM],
 ) -> Decided
     requires { ⌜ WellFormed shape × (length (now listed) ≡ 64) × (length (now sets) ≡ 64) × (length (now checks) ≡ 64) ⌝ }
     ensures { λ r. ⌜ Decision shape (lostIn map) (now (listed .exit)) (now (sets .exit)) (now (checks .exit)) r ⌝ }
@@ -129,16 +126,16 @@ pub fn decide(
     if n < u {
         return Decided::Open;
     }
-    let mut rows = [0u64; solve::ROOM];
-    let mut sources = [0u64; solve::ROOM];
-    let mut chosen = [0usize; solve::ROOM];
+    let mut rows = [0u64; bits::ROOM];
+    let mut sources = [0u64; bits::ROOM];
+    let mut chosen = [0usize; bits::ROOM];
     hold_lost(shape, listed, u, &mut rows);
     let e = solve::eliminate(&mut rows, &mut sources, &mut chosen, u, n);
     match e {
         Eliminated::Stopped => Decided::Open,
         Eliminated::Passed(unused) => {
             gather(&chosen, &sources, u, sets);
-            let mut free = [0usize; solve::ROOM];
+            let mut free = [0usize; bits::ROOM];
             let v = bits::list_members(unused, 1, &mut free);
             gather(&free, &sources, v, checks);
             Decided::Solved { lost: u, checks: v }

@@ -17,7 +17,7 @@ pub fn set_parity(shape: Shape, stripe: &mut [u8], q: usize, at: usize, n: usize
     requires { ⌜ Window shape (now stripe) at n × (q < equations shape) ⌝ }
     ensures { λ _. ⌜ ParitySet shape q at n (now (stripe .entry)) (now (stripe .exit)) ⌝ }
 {
-    let mut places = [0usize; 32];
+    let mut places = [0usize; codes::PLACES];
     let from = codes::sources_of(shape, q, &mut places);
     let to = from.to;
     let count = from.count;
@@ -29,7 +29,7 @@ pub fn fails(shape: Shape, stripe: &[u8], q: usize, at: usize, n: usize) -> bool
     requires { ⌜ Window shape (now stripe) at n × (q < equations shape) ⌝ }
     ensures { λ r. ⌜ r ≡ failsIn shape (now (stripe .entry)) q at n ⌝ }
 {
-    let mut places = [0usize; 32];
+    let mut places = [0usize; codes::PLACES];
     let from = codes::sources_of(shape, q, &mut places);
     let to = from.to;
     let count = from.count;
@@ -65,7 +65,7 @@ pub fn put_total(
     requires { ⌜ Window shape (now stripe) at n × (q < equations shape) × (to + n ≤ length (now into)) ⌝ }
     ensures { λ _. ⌜ Put (now (into .entry)) to n (λ i. total shape q (bytesAt shape (now (stripe .entry)) (at + i))) (now (into .exit)) ⌝ }
 {
-    let mut places = [0usize; 32];
+    let mut places = [0usize; codes::PLACES];
     let count = codes::cells_of(shape, q, &mut places);
     xor::put_sum_from(into, to, stripe, &places[..count], at, n);
 }
@@ -75,7 +75,7 @@ pub fn total_byte(shape: Shape, stripe: &[u8], q: usize, t: usize) -> u8
     requires { ⌜ WellFormed shape × (length (now stripe) ≡ stripeLength shape) × (q < equations shape) × (t < shape .cell) ⌝ }
     ensures { λ r. ⌜ r ≡ total shape q (bytesAt shape (now (stripe .entry)) t) ⌝ }
 {
-    let mut places = [0usize; 32];
+    let mut places = [0usize; codes::PLACES];
     let count = codes::cells_of(shape, q, &mut places);
     xor::sum_byte(stripe, &places[..count], t)
 }
@@ -85,7 +85,7 @@ pub fn failing_byte(shape: Shape, stripe: &[u8], q: usize, at: usize, n: usize) 
     requires { ⌜ Window shape (now stripe) at n × (q < equations shape) × (failsIn shape (now stripe) q at n ≡ true) ⌝ }
     ensures { λ r. ⌜ (r < n) × (total shape q (bytesAt shape (now (stripe .entry)) (at + r)) ≢ 0) ⌝ }
 {
-    let mut places = [0usize; 32];
+    let mut places = [0usize; codes::PLACES];
     let count = codes::cells_of(shape, q, &mut places);
     xor::nonzero_at(stripe, &places[..count], at, n)
 }

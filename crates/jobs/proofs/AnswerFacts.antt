@@ -23,8 +23,8 @@ use Rattle.jobs.proofs.OneAnswer.{carried-this}
 same-long : (s : Shape) (lost old : List ℕ) (answer : ℕ) (new : List ℕ) → RebuildsCells s lost old answer new → length new ≡ length old
 same-long s lost old answer new r =
     by-equal (refusal (cellsFaults s (length old) lost)) 0
-    (λ e. decided-long s (named s lost) old answer new (cells-accepted s (length old) lost e .1) (r .decides e, r .kept))
-    (λ n. ap (λ (x : List ℕ). length x) (r .kept (λ z. n (sym (r .refused n) ∙ z))))
+    (λ e. decided-long s (named s lost) old answer new (cells-accepted s (length old) lost e .1) (r .decides e))
+    (λ n. ap (λ (x : List ℕ). length x) (r .refused n .1))
 
 bytes-most : (answer : ℕ) (stripe : List ℕ) → length stripe ≤ mostStripe → length (answerBytes answer stripe) ≤ 7 + mostStripe
 bytes-most answer stripe l = by-equal answer 0 (λ e. omega (arith, length-done answer stripe e)) (λ n. omega (arith, length-refused answer stripe n))
@@ -46,8 +46,8 @@ answer-inside input old size new h long =
 
 -- ---- a job whose lost cells the survivors determine is answered 0 with the encoded stripe that agrees with them
 
-pub job-comes-back : (j : Job) → Fits j → refusal (cellsFaults (shapeOf j) (length (j .stripe)) (j .lost)) ≡ 0 → (Undetermined (shapeOf j) (named (j .lost)) → ⊥)
-    → (x : List ℕ) → Restores (shapeOf j) (named (j .lost)) (j .stripe) x → (output : List ℕ) → Answers (jobBytes j) output → output ≡ answerBytes 0 x
+pub job-comes-back : (j : Job) → Fits j → refusal (cellsFaults (shapeOf j) (length (j .stripe)) (j .lost)) ≡ 0 → (Undetermined (shapeOf j) (named (shapeOf j) (j .lost)) → ⊥)
+    → (x : List ℕ) → Restores (shapeOf j) (named (shapeOf j) (j .lost)) (j .stripe) x → (output : List ℕ) → Answers (jobBytes j) output → output ≡ answerBytes 0 x
 job-comes-back j fits right determined x restores output (carried i _ ei ci) =
     let c = carried-this i j (jobBytes j) output ei refl ci in
     let back = cells-come-back (shapeOf j) (j .lost) (j .stripe) x right determined restores (c .answer) (c .stripe) (c .rebuilds) in

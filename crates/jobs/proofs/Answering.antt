@@ -10,6 +10,8 @@ use lib.Seq.{length-take-le}
 use Rattle.xor.proofs.Cases.{by-equal}
 use Rattle.codes.specs.declared.Shape.{Shape}
 use Rattle.codes.specs.Refusals.{Fault, order, applies, firstOf, refusal, cellsFaults}
+use Rattle.decide.specs.Survivors.{named}
+use Rattle.rebuild.proofs.Deciding.{done}
 use Rattle.rebuild.specs.Rebuild.{RebuildsCells}
 use Rattle.jobs.specs.declared.Fields.{Fields}
 use Rattle.jobs.specs.Format.{mostStripe, noJobRefusal, Job, jobBytes, Fits, shapeOf, answerBytes}
@@ -73,7 +75,7 @@ answer-small s lost old answer new r = by-equal (refusal (cellsFaults s (length 
     wrong n = omega (arith, r .refused n .0, refusal-small (cellsFaults s (length old) lost))
 
     right : refusal (cellsFaults s (length old) lost) ≡ 0 → answer < 256
-    right e = by-equal answer 11 (λ q. omega arith) (λ m. by-equal answer 12 (λ q. omega arith) (λ k. omega (arith, done (shape) m k .0)))
+    right e = by-equal answer 11 (λ q. omega arith) (λ m. by-equal answer 12 (λ q. omega arith) (λ k. omega (arith, done s (named s lost) old answer new (r .decides e) m k .0)))
 
 -- ---- what is written
 

@@ -57,7 +57,7 @@ module _ (s : Shape) (stripe : List ℕ) (at n : ℕ) where
       → Totals s stripe set at n lanes
   totals-all w set count list lanes k below members end h = record {
     long = h .long;
-    lane = λ r p i l.
+    holds = λ r p i l.
         let found = members .all r (omega (arith, below r p, small-equations s w)) p in
         let is : getD list (found .0) 0 ≡ r = found .2 ∙ mul-one r in
         ap (λ (q : ℕ). getD lanes (q * 512 + i) 0) (sym is) ∙ h .lane (found .0) (omega (arith, found .1)) i l ∙ ap (λ (q : ℕ). total s q (bytesAt s stripe (at + i))) is;
@@ -100,7 +100,7 @@ module _ (s : Shape) (w : WellFormed s) (stripe : List ℕ) (set at n : ℕ) (la
   unfolding laneSum summed
   totals-sum m within below i l =
       xors-same 64 (λ r. cond (bit r m) (getD lanes (r * 512 + i) 0) 0) (λ r. cond (bit r m) (total s r (bytesAt s stripe (at + i))) 0)
-      (λ r lr. by-test (bit r m) (λ p. ap (λ (x : ℕ). cond (bit r m) x 0) (h .lane r (within r p) i l)) (λ p. rw p refl))
+      (λ r lr. by-test (bit r m) (λ p. ap (λ (x : ℕ). cond (bit r m) x 0) (h .holds r (within r p) i l)) (λ p. rw p refl))
       ∙ xors-cut 64 (equations s) (λ r. cond (bit r m) (total s r (bytesAt s stripe (at + i))) 0) (omega (arith, small-equations s w))
       (λ r lo hi. ap (λ (b : Bool). cond b (total s r (bytesAt s stripe (at + i))) 0) (not-passed (λ p. let low = below r p in absurd (omega arith))))
 

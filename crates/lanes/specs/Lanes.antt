@@ -14,20 +14,27 @@ use Rattle.codes.specs.Encoded.{byteAt, total}
 use Rattle.equation.specs.Window.{bytesAt, Window}
 use Rattle.decide.specs.Solver.{summed, mended}
 
+-- how many bytes a lane has, and the lanes of all equations that there may be
+abbrev pub lane : ℕ
+lane = 512
+
+abbrev pub room : ℕ
+room = 32768
+
 -- bytes at to at + n of each cell of a well-formed stripe, and room for as many in each lane
 pub record InLane (s : Shape) (stripe : List ℕ) (at n : ℕ) (lanes : List ℕ) : Type 0 where
   pub window : Window s stripe at n
-  pub few : n ≤ 512
-  pub room : length lanes ≡ 32768
+  pub few : n ≤ lane
+  pub space : length lanes ≡ room
 
 -- lane r has the totals of equation r in bytes at to at + n, for each r in the set
 pub record Totals (s : Shape) (stripe : List ℕ) (set at n : ℕ) (lanes : List ℕ) : Type 0 where
-  pub long : length lanes ≡ 32768
-  pub lane : (r : ℕ) → bit r set ≡ true → (i : ℕ) → i < n → getD lanes (r * 512 + i) 0 ≡ total s r (bytesAt s stripe (at + i))
+  pub long : length lanes ≡ room
+  pub holds : (r : ℕ) → bit r set ≡ true → (i : ℕ) → i < n → getD lanes (r * lane + i) 0 ≡ total s r (bytesAt s stripe (at + i))
 
 -- the XOR of byte i of the lanes in the set
 unfoldable pub laneSum : List ℕ → ℕ → ℕ → ℕ
-laneSum lanes set i = xors 64 (λ r. cond (bit r set) (getD lanes (r * 512 + i) 0) 0)
+laneSum lanes set i = xors 64 (λ r. cond (bit r set) (getD lanes (r * lane + i) 0) 0)
 
 -- in byte t of the stripe the first n checks sum to zero
 pub record Passes (s : Shape) (stripe : List ℕ) (n : ℕ) (checks : List ℕ) (t : ℕ) : Type 0 where

@@ -10,37 +10,43 @@ ghost use Rattle.bits.specs.Bit.{bit, Union};
 ghost use Rattle.codes.specs.Shape.{equations, stripeLength, WellFormed};
 ghost use Rattle.equation.specs.Window.{Window};
 ghost use Rattle.decide.specs.Solver.{Sets};
-ghost use Rattle.lanes.specs.Lanes.{laneSum, InLane, Totals, Passes, CellsIn, LanesOf, Filled, Mends};
+ghost use Rattle.lanes.specs.Lanes.{lane, room, laneSum, InLane, Totals, Passes, CellsIn, LanesOf, Filled, Mends};
 use codes::Shape;
+
+// Bytes in a lane.
+const LANE: usize = 512;
+
+// Bytes in the lanes of all equations that there may be.
+pub const LANES: usize = 32768;
 
 // Sets n bytes of the lane of each equation in a set to its total, from byte `at` of each cell on.
 fn put_totals(shape: Shape, stripe: &[u8], set: u64, at: usize, n: usize, lanes: &mut [u8])
     requires { ⌜ InLane shape (now stripe) at n (now lanes) × ((r : ℕ) → bit r set ≡ true → r < equations shape) ⌝ }
     ensures { λ _. ⌜ Totals shape (now (stripe .entry)) set at n (now (lanes .exit)) ⌝ }
 {
-    let mut members = [0usize; 64];
+    let mut members = [0usize; bits::ROOM];
     let count = bits::list_members(set, 1, &mut members);
     let mut k = 0;
     while k < count {
         let q = members[k];
-        equation::put_total(shape, stripe, q, at, n, lanes, q * 512);
+        equation::put_total(shape, stripe, q, at, n, lanes, q * LANE);
         k += 1;
     }
 }
 
 // Whether the lanes of a set sum to zero in n bytes.
 fn set_agrees(lanes: &[u8], set: u64, n: usize) -> bool
-    requires { ⌜ (length (now lanes) ≡ 32768) × (n ≤ 512) ⌝ }
+    requires { ⌜ (length (now lanes) ≡ room) × (n ≤ lane) ⌝ }
     ensures { λ r. ⌜ Says ((i : ℕ) → i < n → laneSum (now (lanes .entry)) set i ≡ 0) r ⌝ }
 {
-    let mut places = [0usize; 64];
-    let count = bits::list_members(set, 512, &mut places);
+    let mut places = [0usize; bits::ROOM];
+    let count = bits::list_members(set, LANE, &mut places);
     xor::sums_to_zero(lanes, &places[..count], n)
 }
 
 // Whether the lanes of each of the first v sets sum to zero in n bytes.
-fn lanes_agree(lanes: &[u8], checks: &[u64; 64], v: usize, n: usize) -> bool
-    requires { ⌜ (length (now lanes) ≡ 32768) × (n ≤ 512) × (v ≤ 64) × (length (now checks) ≡ 64) ⌝ }
+fn lanes_agree(lanes: &[u8], checks: &[u64; bits::ROOM], v: usize, n: usize) -> bool
+    requires { ⌜ (length (now lanes) ≡ room) × (n ≤ lane) × (v ≤ 64) × (length (now checks) ≡ 64) ⌝ }
     ensures { λ r. ⌜ Says ((j : ℕ) → j < v → (i : ℕ) → i < n → laneSum (now (lanes .entry)) (getD (now (checks .entry)) j 0) i ≡ 0) r ⌝ }
 {
     let mut j = 0;
@@ -56,16 +62,16 @@ fn lanes_agree(lanes: &[u8], checks: &[u64; 64], v: usize, n: usize) -> bool
 // How many bytes the lane has that starts after `done` of n bytes.
 fn lane_bytes(done: usize, n: usize) -> usize
     requires { ⌜ done < n ⌝ }
-    ensures { λ r. ⌜ (1 ≤ r) × (r ≤ 512) × (done + r ≤ n) ⌝ }
+    ensures { λ r. ⌜ (1 ≤ r) × (r ≤ lane) × (done + r ≤ n) ⌝ }
 {
-    if n - done < 512 { n - done } else { 512 }
+    if n - done < LANE { n - done } else { LANE }
 }
 
 // Whether the survivors pass the checks in n bytes from `at` on; `set` is the union of the checks.
 fn lane_agrees(
     shape: Shape,
     stripe: &[u8],
-    checks: &[u64; 64],
+    checks: &[u64; bits::ROOM],
     v: usize,
     set: u64,
     at: usize,
@@ -73,7 +79,7 @@ fn lane_agrees(
     lanes: &mut [u8],
 ) -> bool
     requires { ⌜ InLane shape (now stripe) at n (now lanes) × Sets shape v (now checks) × Union v (now checks) set ⌝ }
-    ensures { λ r. ⌜ Says ((i : ℕ) → i < n → Passes shape (now (stripe .entry)) v (now (checks .entry)) (at + i)) r × (length (now (lanes .exit)) ≡ 32768) ⌝ }
+    ensures { λ r. ⌜ Says ((i : ℕ) → i < n → Passes shape (now (stripe .entry)) v (now (checks .entry)) (at + i)) r × (length (now (lanes .exit)) ≡ room) ⌝ }
 {
     put_totals(shape, stripe, set, at, n, lanes);
     lanes_agree(lanes, checks, v, n)
@@ -83,14 +89,14 @@ fn lane_agrees(
 pub fn survivors_agree(
     shape: Shape,
     stripe: &[u8],
-    checks: &[u64; 64],
+    checks: &[u64; bits::ROOM],
     v: usize,
     at: usize,
     n: usize,
     lanes: &mut [u8],
 ) -> bool
-    requires { ⌜ Window shape (now stripe) at n × Sets shape v (now checks) × (length (now lanes) ≡ 32768) ⌝ }
-    ensures { λ r. ⌜ Says ((i : ℕ) → i < n → Passes shape (now (stripe .entry)) v (now (checks .entry)) (at + i)) r × (length (now (lanes .exit)) ≡ 32768) ⌝ }
+    requires { ⌜ Window shape (now stripe) at n × Sets shape v (now checks) × (length (now lanes) ≡ room) ⌝ }
+    ensures { λ r. ⌜ Says ((i : ℕ) → i < n → Passes shape (now (stripe .entry)) v (now (checks .entry)) (at + i)) r × (length (now (lanes .exit)) ≡ room) ⌝ }
 {
     let set = bits::union(checks, v);
     let mut done = 0;
@@ -106,11 +112,11 @@ pub fn survivors_agree(
 
 // XORs the lanes of a set into n bytes of the stripe at `to`.
 fn add_lanes(stripe: &mut [u8], to: usize, lanes: &[u8], set: u64, n: usize)
-    requires { ⌜ (length (now lanes) ≡ 32768) × (n ≤ 512) × (to + n ≤ length (now stripe)) ⌝ }
+    requires { ⌜ (length (now lanes) ≡ room) × (n ≤ lane) × (to + n ≤ length (now stripe)) ⌝ }
     ensures { λ _. ⌜ Put (now (stripe .entry)) to n (λ i. getD (now (stripe .entry)) (to + i) 0 ⊕ laneSum (now (lanes .entry)) set i) (now (stripe .exit)) ⌝ }
 {
-    let mut places = [0usize; 64];
-    let count = bits::list_members(set, 512, &mut places);
+    let mut places = [0usize; bits::ROOM];
+    let count = bits::list_members(set, LANE, &mut places);
     xor::add_sum(stripe, to, lanes, &places[..count], 0, n);
 }
 
@@ -119,8 +125,8 @@ fn fill_cells(
     shape: Shape,
     stripe: &mut [u8],
     lanes: &[u8],
-    listed: &[usize; 64],
-    sets: &[u64; 64],
+    listed: &[usize; bits::ROOM],
+    sets: &[u64; bits::ROOM],
     lost: usize,
     at: usize,
     n: usize,
@@ -140,8 +146,8 @@ fn fill_cells(
 fn fill_lane(
     shape: Shape,
     stripe: &mut [u8],
-    listed: &[usize; 64],
-    sets: &[u64; 64],
+    listed: &[usize; bits::ROOM],
+    sets: &[u64; bits::ROOM],
     lost: usize,
     set: u64,
     at: usize,
@@ -149,7 +155,7 @@ fn fill_lane(
     lanes: &mut [u8],
 )
     requires { ⌜ InLane shape (now stripe) at n (now lanes) × Sets shape lost (now sets) × CellsIn shape lost (now listed) × Union lost (now sets) set ⌝ }
-    ensures { λ _. ⌜ Filled shape (now (listed .entry)) (now (sets .entry)) lost at (at + n) (now (stripe .entry)) (now (stripe .exit)) × (length (now (lanes .exit)) ≡ 32768) ⌝ }
+    ensures { λ _. ⌜ Filled shape (now (listed .entry)) (now (sets .entry)) lost at (at + n) (now (stripe .entry)) (now (stripe .exit)) × (length (now (lanes .exit)) ≡ room) ⌝ }
 {
     put_totals(shape, stripe, set, at, n, lanes);
     fill_cells(shape, stripe, lanes, listed, sets, lost, at, n);
@@ -159,12 +165,12 @@ fn fill_lane(
 fn fill(
     shape: Shape,
     stripe: &mut [u8],
-    listed: &[usize; 64],
-    sets: &[u64; 64],
+    listed: &[usize; bits::ROOM],
+    sets: &[u64; bits::ROOM],
     lost: usize,
     lanes: &mut [u8],
 )
-    requires { ⌜ WellFormed shape × (length (now stripe) ≡ stripeLength shape) × Sets shape lost (now sets) × CellsIn shape lost (now listed) × (length (now lanes) ≡ 32768) ⌝ }
+    requires { ⌜ WellFormed shape × (length (now stripe) ≡ stripeLength shape) × Sets shape lost (now sets) × CellsIn shape lost (now listed) × (length (now lanes) ≡ room) ⌝ }
     ensures { λ _. ⌜ Filled shape (now (listed .entry)) (now (sets .entry)) lost 0 (shape .cell) (now (stripe .entry)) (now (stripe .exit)) ⌝ }
 {
     let set = bits::union(sets, lost);
@@ -181,16 +187,16 @@ fn fill(
 pub fn mend(
     shape: Shape,
     stripe: &mut [u8],
-    listed: &[usize; 64],
-    sets: &[u64; 64],
+    listed: &[usize; bits::ROOM],
+    sets: &[u64; bits::ROOM],
     lost: usize,
-    checks: &[u64; 64],
+    checks: &[u64; bits::ROOM],
     v: usize,
 ) -> usize
     requires { ⌜ WellFormed shape × (length (now stripe) ≡ stripeLength shape) × Sets shape lost (now sets) × CellsIn shape lost (now listed) × Sets shape v (now checks) ⌝ }
     ensures { λ r. ⌜ Mends shape (now (listed .entry)) (now (sets .entry)) lost (now (checks .entry)) v (now (stripe .entry)) r (now (stripe .exit)) ⌝ }
 {
-    let mut lanes = [0u8; 32768];
+    let mut lanes = [0u8; LANES];
     if !survivors_agree(shape, stripe, checks, v, 0, shape.cell, &mut lanes) {
         return 12;
     }

@@ -22,13 +22,13 @@ fn clean_or_not(shape: Shape, stripe: &[u8]) -> usize
 }
 
 // Rebuilds the lost cells of a map: 0; or 11 where they are undetermined, or 12 where no encoded stripe agrees with the survivors.
-fn rebuild_lost(shape: Shape, stripe: &mut [u8], map: [bool; decide::CELLS]) -> usize
+fn rebuild_lost(shape: Shape, stripe: &mut [u8], map: [bool; codes::CELLS]) -> usize
     requires { ⌜ WellFormed shape × (length (now stripe) ≡ stripeLength shape) ⌝ }
     ensures { λ r. ⌜ Decides shape (lostIn map) (now (stripe .entry)) r (now (stripe .exit)) ⌝ }
 {
-    let mut listed = [0usize; 64];
-    let mut sets = [0u64; 64];
-    let mut checks = [0u64; 64];
+    let mut listed = [0usize; bits::ROOM];
+    let mut sets = [0u64; bits::ROOM];
+    let mut checks = [0u64; bits::ROOM];
     let d = decide::decide(shape, map, &mut listed, &mut sets, &mut checks);
     let Decided::Solved { lost, checks: v } = d else {
         return 11;

@@ -5,9 +5,6 @@ ghost use lib.ListN.{length, getD};
 ghost use Rattle.bits.specs.Bit.{IsLowest};
 ghost use Rattle.solve.specs.Masked.{firstCell, startsAt, Holding, Added, Own, Eliminates};
 
-// Room for the equations, and for the lost cells that they can determine.
-pub const ROOM: usize = 64;
-
 // What elimination answers: it passed all lost cells, and this is the set of the equations that it didn't use; or it stopped at one that has
 // no equation.
 pub enum Eliminated {
@@ -22,8 +19,8 @@ fn first_cell(row: u64) -> u32
     u64::trailing_zeros(row)
 }
 
-// The lowest unused equation whose first unsolved cell is number k; ROOM where there is none.
-fn find_equation(rows: &[u64; ROOM], unused: u64, k: usize) -> usize
+// The lowest unused equation whose first unsolved cell is number k; bits::ROOM where there is none.
+fn find_equation(rows: &[u64; bits::ROOM], unused: u64, k: usize) -> usize
     requires { ⌜ length (now rows) ≡ 64 ⌝ }
     ensures { λ r. ⌜ IsLowest 64 (startsAt (now (rows .entry)) unused k) r ⌝ }
 {
@@ -35,11 +32,11 @@ fn find_equation(rows: &[u64; ROOM], unused: u64, k: usize) -> usize
         }
         rest = rest & (rest - 1);
     }
-    ROOM
+    bits::ROOM
 }
 
 // The set of the equations that hold lost cell number k.
-fn holding(rows: &[u64; ROOM], equations: usize, k: usize) -> u64
+fn holding(rows: &[u64; bits::ROOM], equations: usize, k: usize) -> u64
     requires { ⌜ (length (now rows) ≡ 64) × (equations ≤ 64) × (k < 64) ⌝ }
     ensures { λ r. ⌜ Holding equations (now (rows .entry)) k r ⌝ }
 {
@@ -56,7 +53,7 @@ fn holding(rows: &[u64; ROOM], equations: usize, k: usize) -> u64
 }
 
 // Adds `more` to the mask of each member of a set.
-pub fn add_to(masks: &mut [u64; ROOM], members: u64, more: u64)
+pub fn add_to(masks: &mut [u64; bits::ROOM], members: u64, more: u64)
     requires { ⌜ length (now masks) ≡ 64 ⌝ }
     ensures { λ _. ⌜ Added (now (masks .entry)) members more (now (masks .exit)) ⌝ }
 {
@@ -69,7 +66,7 @@ pub fn add_to(masks: &mut [u64; ROOM], members: u64, more: u64)
 }
 
 // Equation q is added to the others: what becomes of their masks, be they of lost cells or of original equations.
-fn spread(masks: &mut [u64; ROOM], others: u64, q: usize)
+fn spread(masks: &mut [u64; bits::ROOM], others: u64, q: usize)
     requires { ⌜ (length (now masks) ≡ 64) × (q < 64) ⌝ }
     ensures { λ _. ⌜ Added (now (masks .entry)) others (getD (now (masks .entry)) q 0) (now (masks .exit)) ⌝ }
 {
@@ -78,7 +75,7 @@ fn spread(masks: &mut [u64; ROOM], others: u64, q: usize)
 }
 
 // At first every equation is the sum of itself alone.
-fn own_sources(sources: &mut [u64; ROOM], equations: usize)
+fn own_sources(sources: &mut [u64; bits::ROOM], equations: usize)
     requires { ⌜ (length (now sources) ≡ 64) × (equations ≤ 64) ⌝ }
     ensures { λ _. ⌜ Own equations (now (sources .exit)) ⌝ }
 {
@@ -92,9 +89,9 @@ fn own_sources(sources: &mut [u64; ROOM], equations: usize)
 // The elimination method. Lent: `rows`, at q the set of the lost cells that equation q holds, which is used up; `sources`, left at q: the
 // set of the original equations that q is now the sum of; `chosen`, left at k: the equation chosen for lost cell number k.
 pub fn eliminate(
-    rows: &mut [u64; ROOM],
-    sources: &mut [u64; ROOM],
-    chosen: &mut [usize; ROOM],
+    rows: &mut [u64; bits::ROOM],
+    sources: &mut [u64; bits::ROOM],
+    chosen: &mut [usize; bits::ROOM],
     lost: usize,
     equations: usize,
 ) -> Eliminated
@@ -106,7 +103,7 @@ pub fn eliminate(
     let mut k = 0;
     while k < lost {
         let q = find_equation(rows, unused, k);
-        if q == ROOM {
+        if q == bits::ROOM {
             return Eliminated::Stopped;
         }
         let one = bits::one_bit(q);

@@ -6,8 +6,8 @@ use lib.ListN.{length}
 use Rattle.xor.proofs.Cases.{by-equal}
 use Rattle.codes.specs.declared.Shape.{Shape}
 use Rattle.codes.specs.declared.Counted.{Counted}
-use Rattle.codes.specs.Shape.{cellNumber}
 use Rattle.codes.specs.Encoded.{brokenEquations}
+use Rattle.codes.specs.Geometry.{cellAt}
 use Rattle.codes.specs.Refusals.{stripeFaults, writeFaults}
 use Rattle.codes.proofs.Refused.{accepted, write-accepted}
 use Rattle.codes.proofs.Answer.{one-answer}
@@ -40,8 +40,8 @@ broken-one s stripe a b ha hb =
 pub write-one : (s : Shape) (row column : ℕ) (bytes old : List ℕ) (x y : List ℕ) (a b : Counted) → Writes s row column bytes old x a → Writes s row column bytes old y b → (a ≡ b) × (x ≡ y)
 write-one s row column bytes old x y =
     let faults = writeFaults s (length old) row column (length bytes) in
-    let cell = cellNumber s row column in
+    let cell = cellAt s row column in
     one-answer faults faults old x y (λ n. Written s cell old bytes x × Depending s cell n) (λ n. Written s cell old bytes y × Depending s cell n) refl
     (λ z m n hm hn.
-    let right = write-accepted s (length old) row column (length bytes) z in
+    let right = write-accepted s (length old) row column (length bytes) z .1 in
     (one-count s (right .formed) cell m n (hm .1) (hn .1), one-write s (right .formed) cell old bytes x y (right .long) (hm .0) (hn .0)))

@@ -10,7 +10,8 @@ use Rattle.xor.specs.Xor.{_⊕_}
 use Rattle.xor.specs.Sets.{count}
 use Rattle.codes.specs.declared.Shape.{Shape}
 use Rattle.codes.specs.declared.Counted.{Counted}
-use Rattle.codes.specs.Shape.{cells, equations, cellNumber, stripeLength}
+use Rattle.codes.specs.Shape.{cells, equations, stripeLength}
+use Rattle.codes.specs.Geometry.{cellAt}
 use Rattle.codes.specs.Encoded.{byteAt, parityCell, sumOver, isParity, Encoded}
 use Rattle.codes.specs.Refusals.{writeFaults}
 use Rattle.codes.specs.Answer.{Answers}
@@ -45,4 +46,4 @@ pub record Depending (s : Shape) (c n : ℕ) : Type 0 where
 abbrev pub Writes : Shape → ℕ → ℕ → List ℕ → List ℕ → List ℕ → Counted → Type 0
 Writes s row column bytes old new =
     Answers (writeFaults s (length old) row column (length bytes)) old new
-    (λ n. Written s (cellNumber s row column) old bytes new × Depending s (cellNumber s row column) n)
+    (λ n. Written s (cellAt s row column) old bytes new × Depending s (cellAt s row column) n)

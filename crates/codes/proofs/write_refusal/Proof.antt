@@ -6,7 +6,8 @@ use Prim.Native.Nat.{ℕ}
 use native.Mathlib.Omega.{arith}
 use lib.Dec.{eqb}
 use borrow.Author.Tests.{eq-eqb, ne-eqb}
-use Rattle.codes.specs.Shape.{cellNumber, WellFormed}
+use Rattle.codes.specs.Shape.{WellFormed}
+use Rattle.codes.specs.Geometry.{cellAt}
 use Rattle.codes.specs.Encoded.{isParity}
 use Rattle.codes.specs.Refusals.{fault, refusal, stripeFaults, writeFaults}
 use Rattle.codes.proofs.Order.{Gives, hit, miss, right, beyond, inside}
@@ -45,13 +46,13 @@ returns-3 c =
     write-after (a .shape) (a .bytes) (a .row) (a .column) (a .new) .own (right-of (c .before .before .before .before))
     (miss (inside (c .before .before .before .row-count .ensures) (c .before .before .if2 .left)) (hit (beyond (c .before .column-count .ensures) (c .if3 .taken))))
 
-is-parity-requires : tie.Need-is-parity-requires
-is-parity-requires c κs =
+parity-at-requires : tie.Need-parity-at-requires
+parity-at-requires c κs =
     (formed (c .before .before .before .before), omega (arith, c .before .before .before .row-count .ensures, c .before .before .if2 .left), omega (arith, c .before .column-count .ensures, c .if3 .left))
 
 -- past the third test the cell is inside, and the tests that are left decide
 left-tests : {r : ℕ} (c : tie.Else3) → let a = c .before .before .before .before .before .before .args in
-    Gives (fault 7 (isParity (a .shape) (cellNumber (a .shape) (a .row) (a .column))) ∷ fault 8 (not (eqb (a .new) (a .shape .cell))) ∷ []) r
+    Gives (fault 7 (isParity (a .shape) (cellAt (a .shape) (a .row) (a .column))) ∷ fault 8 (not (eqb (a .new) (a .shape .cell))) ∷ []) r
     → r ≡ refusal (writeFaults (a .shape) (a .bytes) (a .row) (a .column) (a .new))
 left-tests c g =
     let a = c .before .before .before .before .before .before .args in
@@ -59,13 +60,13 @@ left-tests c g =
     (miss (inside (c .before .before .before .row-count .ensures) (c .before .before .if2 .left)) (miss (inside (c .before .column-count .ensures) (c .if3 .left)) g))
 
 returns-4 : tie.Need-returns-4
-returns-4 c = left-tests (c .before .before) (hit (sym (c .before .is-parity .ensures) ∙ c .if4 .taken))
+returns-4 c = left-tests (c .before .before) (hit (sym (c .before .parity-at .ensures) ∙ c .if4 .taken))
 
 returns-5 : tie.Need-returns-5
-returns-5 c = left-tests (c .before .before .before .before) (miss (sym (c .before .before .before .is-parity .ensures) ∙ c .before .before .if4 .left) (hit (ap not (ne-eqb _ _ (c .if5 .taken)))))
+returns-5 c = left-tests (c .before .before .before .before) (miss (sym (c .before .before .before .parity-at .ensures) ∙ c .before .before .if4 .left) (hit (ap not (ne-eqb _ _ (c .if5 .taken)))))
 
 returns-6 : tie.Need-returns-6
-returns-6 c = left-tests (c .before .before .before .before) (miss (sym (c .before .before .before .is-parity .ensures) ∙ c .before .before .if4 .left) (miss (ap not (eq-eqb _ _ (c .if5 .left))) right))
+returns-6 c = left-tests (c .before .before .before .before) (miss (sym (c .before .before .before .parity-at .ensures) ∙ c .before .before .if4 .left) (miss (ap not (eq-eqb _ _ (c .if5 .left))) right))
 
 pub write-refusal-spec : {M : Type 1} → statement M
 write-refusal-spec =
@@ -77,7 +78,7 @@ write-refusal-spec =
     returns-2
     column-count-requires
     returns-3
-    is-parity-requires
+    parity-at-requires
     returns-4
     returns-5
     returns-6)

@@ -29,7 +29,7 @@ fill-lane-requires c κs =
     let start = c .before .before .before .before .before .before .before .before in
     let n = c .before .before .lane-bytes .ensures in
     let turn = c .before .before .before .before .loop in
-    (record { window = record { formed = start .pre .0; long = turn .inv .1 .long ∙ start .pre .1; ends = n .2 }; few = n .1; room = turn .inv .2 }, start .pre .2, start .pre .3, c .before .before .before .before .before .union .ensures)
+    (record { window = record { formed = start .pre .0; long = turn .inv .1 .long ∙ start .pre .1; ends = n .2 }; few = n .1; space = turn .inv .2 }, start .pre .2, start .pre .3, c .before .before .before .before .before .union .ensures)
 
 add-at : tie.Need-add-at Inv-loop μ-loop
 add-at c = omega (arith, c .before .before .before .before .before .before .before .lane-bytes .ensures .2, c .before .before .before .before .before .before .before .before .before .before .before .before .before .pre .0 .cellHigh)

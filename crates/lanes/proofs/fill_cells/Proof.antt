@@ -48,7 +48,7 @@ add-lanes-requires c κs =
     let turn = c .before .before .before .before .before .loop in
     let w = start .pre .0 .window in
     let inside = start .pre .2 .inside (turn .k) (c .before .before .before .before .loop-test .taken) in (
-      start .pre .0 .room,
+      start .pre .0 .space,
       start .pre .0 .few,
       omega (arith, c .before .before .place-of .ensures, place-inside (start .args .shape) (w .formed) _ inside, w .long, w .ends, turn .inv .1 .long),
     )

@@ -13,7 +13,7 @@ fill-cells-requires c κs =
     let start = c .before .before .before .before .before .before .before .before .before in
     let lane = start .pre .0 in
     let totals = c .before .before .before .before .put-totals .ensures in (
-      record { window = lane .window; few = lane .few; room = totals .long },
+      record { window = lane .window; few = lane .few; space = totals .long },
       start .pre .1,
       start .pre .2,
       totals-of (start .args .shape) (lane .window .formed) (start .args .stripe .now) (start .args .set) (start .args .at) (start .args .n) _ totals (start .args .lost) (start .args .sets .now) (start .pre .1) (start .pre .3),
@@ -23,7 +23,7 @@ same-length : tie.Need-same-length
 same-length c = c .before .before .fill-cells .ensures .long
 
 same-length-2 : tie.Need-same-length-2
-same-length-2 c = c .before .before .before .before .before .before .before .put-totals .ensures .long ∙ sym (c .before .before .before .before .before .before .before .before .before .before .before .before .pre .0 .room)
+same-length-2 c = c .before .before .before .before .before .before .before .put-totals .ensures .long ∙ sym (c .before .before .before .before .before .before .before .before .before .before .before .before .pre .0 .space)
 
 returns : tie.Need-returns
 returns c = (c .before .before .fill-cells .ensures, c .before .before .before .before .before .before .before .put-totals .ensures .long)

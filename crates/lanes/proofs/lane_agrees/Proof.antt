@@ -12,7 +12,7 @@ lanes-agree-requires : tie.Need-lanes-agree-requires
 lanes-agree-requires c κs = (c .before .before .before .put-totals .ensures .long, c .before .before .before .before .before .before .before .pre .0 .few, c .before .before .before .before .before .before .before .pre .1 .few, c .before .before .before .before .before .before .before .pre .1 .long)
 
 same-length : tie.Need-same-length
-same-length c = c .before .before .before .before .put-totals .ensures .long ∙ sym (c .before .before .before .before .before .before .before .before .pre .0 .room)
+same-length c = c .before .before .before .before .put-totals .ensures .long ∙ sym (c .before .before .before .before .before .before .before .before .pre .0 .space)
 
 returns : tie.Need-returns
 returns c =

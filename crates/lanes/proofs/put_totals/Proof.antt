@@ -17,7 +17,7 @@ list-members-requires : tie.Need-list-members-requires Inv-loop μ-loop
 list-members-requires c κs = (refl, omega arith)
 
 loop-holds : tie.Need-loop-holds Inv-loop μ-loop
-loop-holds c = (omega arith, totals-none _ _ _ _ _ _ (c .before .before .before .before .pre .0 .room))
+loop-holds c = (omega arith, totals-none _ _ _ _ _ _ (c .before .before .before .before .pre .0 .space))
 
 mul-q : tie.Need-mul-q Inv-loop μ-loop
 mul-q c = omega (arith, c .before .before .list-members .ensures .few)
@@ -54,7 +54,7 @@ loop-again c =
     (omega arith, totals-more (a .shape) (a .stripe .now) (a .at) (a .n) _ (turn .k) _ _ (c .before .before .before .before .before .before .before .before .before .before .pre .0 .few) (turn .inv .1) (c .before .before .put-total .ensures))
 
 same-length : tie.Need-same-length Inv-loop μ-loop
-same-length c = c .before .loop .inv .1 .long ∙ sym (c .before .before .before .before .before .before .pre .0 .room)
+same-length c = c .before .loop .inv .1 .long ∙ sym (c .before .before .before .before .before .before .pre .0 .space)
 
 returns : tie.Need-returns Inv-loop μ-loop
 returns c = totals-all _ _ _ _ (c .before .before .before .before .before .before .pre .0 .window .formed) _ _ _ _ _ (c .before .before .before .before .before .before .pre .1) (c .before .before .list-members .ensures) (omega arith) (c .before .loop .inv .1)

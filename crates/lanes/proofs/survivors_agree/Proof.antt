@@ -34,7 +34,7 @@ lane-agrees-requires c κs =
     let start = c .before .before .before .before .before .before .before in
     let m = c .before .lane-bytes .ensures in
     let w = start .pre .0 in (
-      record { window = record { formed = w .formed; long = w .long; ends = omega (arith, m .2, w .ends) }; few = m .1; room = c .before .before .before .loop .inv .2 },
+      record { window = record { formed = w .formed; long = w .long; ends = omega (arith, m .2, w .ends) }; few = m .1; space = c .before .before .before .loop .inv .2 },
       start .pre .1,
       c .before .before .before .before .union .ensures,
     )
