@@ -7,7 +7,7 @@ use borrow.Author.Tests.{eq-eqb, ne-eqb}
 use Rattle.xor.proofs.Cases.{by-equal}
 use Rattle.codes.specs.declared.Shape.{Shape}
 use Rattle.codes.proofs.Residues.{there-and-back}
-use Rattle.spare.specs.Plan.{diagonal}
+use Rattle.plan.specs.Plan.{diagonal}
 
 module _ (s : Shape) where
   pub diagonal-last : (j i : ℕ) → j ≡ s .p → diagonal s j i ≡ i
