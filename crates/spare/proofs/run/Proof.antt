@@ -37,16 +37,26 @@ smaller-requires : tie.Need-smaller-requires
 smaller-requires c κs = search needs
 
 column-of-requires : tie.Need-column-of-requires
-column-of-requires c κs = ?a
+column-of-requires c κs = let asked = run-asked _ _ _ _ _ _ (none (c .before .before)) .of in (asked .formed, asked .column)
 
 run-rows-requires : tie.Need-run-rows-requires
-run-rows-requires c κs = ?b
+run-rows-requires c κs =
+    let called = c .before .before .before .before in
+    let a = c .before .before .before .before .before .before .before .before .args in
+    let r = right called in (
+      subst (λ (j : ℕ). RunRight (a .shape) (length (a .stripe .now)) (length (a .spare .now)) j (a .plan) (a .first)) (sym (c .before .column-of .ensures)) r,
+      omega (arith, c .before .before .smaller .ensures, c .before .before .before .rows-left .ensures, min-le-right (a .budget) (c .before .before .before .rows-left .result), r .start, last-row _ _ (r .buffers .of)),
+    )
 
 same-length : tie.Need-same-length
 same-length c = search needs
 
 returns-2 : tie.Need-returns-2
-returns-2 c = ?c
+returns-2 c =
+    let called = c .before .before .before .before .before .before .before in
+    let a = called .before .before .before .before .args in
+    run-done (a .shape) (a .k) (a .plan) (a .first) (a .budget) (a .stripe .now) (a .spare .now) _ (called .before .run-refusal .ensures) (called .if1 .left) _ _ _ _
+    (c .before .before .before .before .before .before .rows-left .ensures) (c .before .before .before .before .before .smaller .ensures) (c .before .before .before .before .column-of .ensures) (c .before .before .run-rows .ensures)
 
 pub run-spec : {M : Type 1} → statement M
 run-spec =
