@@ -9,13 +9,20 @@ use Rattle.bits.specs.Bit.{bit}
 use Rattle.codes.specs.declared.Shape.{Shape}
 use Rattle.codes.specs.Shape.{rows, equations, cellNumber}
 use Rattle.codes.proofs.Positions.{cell-inside, rdp-n}
-use Rattle.spare.specs.Plan.{diagonal, chosen}
-use Rattle.spare.specs.Right.{RdpColumn}
+use Rattle.plan.specs.Plan.{diagonal, chosen}
+use Rattle.plan.specs.Right.{RdpColumn}
 use Rattle.spare.specs.Places.{RowRight}
-use Rattle.spare.proofs.Column.{last-row, last-column}
-use Rattle.spare.proofs.Diagonals.{diagonal-last, diagonal-below}
-use Rattle.spare.proofs.Cells.{taken-low, own-held}
+use Rattle.plan.proofs.Column.{last-row, last-column}
+use Rattle.plan.proofs.Diagonals.{diagonal-last, diagonal-below}
+use Rattle.plan.proofs.Cells.{taken-low, own-held}
 use Rattle.spare.proofs.Slots.{Held}
+
+-- the diagonal, as the code works it out: column p is no further on than column 0
+pub diagonal-is : (s : Shape) (k i : ℕ) → RdpColumn s k → i < rows s → (i + k) % s .p ≡ diagonal s k i
+diagonal-is s k i of li =
+    by-equal k (s .p)
+    (λ e. ap (λ (x : ℕ). (i + x) % s .p) e ∙ add-mod-right i (s .p) ∙ mod-eq-of-lt (omega (arith, last-row s k of)) ∙ sym (diagonal-last s k i e))
+    (λ n. sym (diagonal-below s k i (omega (arith, last-column s k of))))
 
 module _ (s : Shape) (k plan i : ℕ) where
   pub by-row : bit i plan ≡ false → chosen s k plan i ≡ i
@@ -25,13 +32,6 @@ module _ (s : Shape) (k plan i : ℕ) where
   pub by-diagonal : bit i plan ≡ true → chosen s k plan i ≡ rows s + diagonal s k i
   unfolding chosen
   by-diagonal p = rw p refl
-
-  -- the diagonal, as the code works it out: column p is no further on than column 0
-  pub diagonal-is : RdpColumn s k → i < rows s → (i + k) % s .p ≡ diagonal s k i
-  diagonal-is of li =
-      by-equal k (s .p)
-      (λ e. ap (λ (x : ℕ). (i + x) % s .p) e ∙ add-mod-right i (s .p) ∙ mod-eq-of-lt (omega (arith, last-row s k of)) ∙ sym (diagonal-last s k i e))
-      (λ n. sym (diagonal-below s k i (omega (arith, last-column s k of))))
 
   -- ---- the row's cell of the lost column is one of the equation's
 

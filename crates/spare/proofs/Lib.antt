@@ -1,16 +1,9 @@
--- The laws behind plan, run and show.
+-- The laws behind run and show.
 pub mod Column
-pub mod Diagonals
 pub mod Refused
-pub mod Accepted
-pub mod Rule
-pub mod Cells
-pub mod Counting
-pub mod PlanReads
-pub mod PlanFacts
-pub mod Planning
 pub mod Slots
 pub mod Choice
+pub mod Leads
 pub mod Tables
 pub mod Windows
 pub mod Parts

@@ -12,10 +12,9 @@ use Rattle.xor.specs.Runs.{sumAt, Inside, Put}
 use Rattle.xor.proofs.Cases.{by-equal}
 use Rattle.codes.specs.declared.Shape.{Shape}
 use Rattle.codes.specs.Shape.{cellNumber, stripeLength, WellFormed}
-use Rattle.codes.specs.Encoded.{byteAt}
 use Rattle.codes.proofs.Places.{cells-apart}
-use Rattle.spare.specs.Plan.{chosen}
-use Rattle.spare.specs.Run.{rebuiltByte, RowsRebuilt}
+use Rattle.plan.specs.Plan.{chosen}
+use Rattle.spare.specs.Run.{rebuiltByte, spareByte, RowsRebuilt}
 use Rattle.spare.proofs.Slots.{OthersAt}
 
 -- ---- the other cells of the chosen equation lie inside the stripe
@@ -72,7 +71,7 @@ module _ (s : Shape) (w : WellFormed s) (k plan first : ℕ) (stripe old : List 
 
   put-more : (mid new : List ℕ) (i : ℕ) → first ≤ i → RowsRebuilt s k plan first (i - first) stripe old mid
       → Put mid (i * s .cell) (s .cell) (rebuiltByte s k plan stripe i) new → RowsRebuilt s k plan first (i + 1 - first) stripe old new
-  unfolding byteAt
+  unfolding spareByte
   put-more mid new i l h put = record {
     long = put .long ∙ h .long;
     rebuilt = λ j lo hi t lt. by-equal j i

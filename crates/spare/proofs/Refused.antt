@@ -1,4 +1,4 @@
--- The refusals of plan, run and show: which faults each call has after which, and what holds where there is none.
+-- The refusals of run and show: which faults each call has after which, and what holds where there is none.
 use mathlib.Core.Path.{_≡_, refl}
 use mathlib.Core.List.{[], _∷_}
 use mathlib.Core.Bool.{not, _&&_}
@@ -7,37 +7,16 @@ use lib.Dec.{eqb, leb}
 use borrow.Author.Tests.{eq-eqb, eqb-true, leb-false, not-false}
 use Rattle.codes.specs.declared.Shape.{Shape}
 use Rattle.codes.specs.Shape.{rows, columns, stripeLength, WellFormed}
-use Rattle.codes.specs.Refusals.{fault, otherLength, outside, order, refusal, codeFaults, sizeFaults}
+use Rattle.codes.specs.Geometry.{columnOf}
+use Rattle.codes.specs.Refusals.{fault, otherLength, outside, order, refusal}
 use Rattle.codes.proofs.Order.{After, after}
-use Rattle.codes.proofs.Refused.{well-formed}
-use Rattle.spare.specs.Plan.{isAccepted}
-use Rattle.spare.specs.Refusals.{notRdp, rdpFaults, planFaults, spareFaults, runFaults, showFaults}
-use Rattle.spare.specs.Right.{RdpColumn, SpareRight, RunRight}
-
--- ---- a shape that must be RDP's
-
-module _ (s : Shape) where
-  pub rdp-after : After (codeFaults s) (notRdp s ∷ sizeFaults s) (rdpFaults s)
-  unfolding order
-  rdp-after = after (codeFaults s) (notRdp s ∷ sizeFaults s) refl refl
-
-  -- a shape that is not refused is RDP's, and well formed
-  pub rdp-accepted : refusal (rdpFaults s) ≡ 0 → WellFormed s × (s .code ≡ 1)
-  rdp-accepted none = let n = rdp-after .none none in (well-formed s (n .0) (n .1 .1), eqb-true (s .code) 1 (not-false _ (n .1 .0)))
-
--- ---- a plan
-
-module _ (s : Shape) (k : ℕ) where
-  pub plan-after : After (rdpFaults s) (outside k (columns s) ∷ []) (planFaults s k)
-  unfolding planFaults order
-  plan-after = after (rdpFaults s) _ refl refl
-
-  -- a plan that is not refused is for a column of RDP
-  pub plan-accepted : refusal (planFaults s k) ≡ 0 → RdpColumn s k
-  plan-accepted none =
-      let n = plan-after .none none in
-      let formed = rdp-accepted s (n .0) in
-      record { formed = formed .0; rdp = formed .1; column = leb-false (columns s) k (n .1 .0) }
+use Rattle.plan.specs.Plan.{isAccepted}
+use Rattle.plan.specs.Refusals.{rdpFaults}
+use Rattle.plan.proofs.Column.{lying}
+use Rattle.plan.proofs.Refused.{rdp-accepted}
+use Rattle.spare.specs.Refusals.{spareFaults, runFaults, showFaults}
+use Rattle.plan.specs.Right.{RdpColumn}
+use Rattle.spare.specs.Right.{SpareRight, RunRight}
 
 -- ---- a stripe and a spare
 
@@ -62,19 +41,25 @@ module _ (s : Shape) (bytes spare : ℕ) where
 -- ---- a run by plan
 
 module _ (s : Shape) (bytes spare k plan first : ℕ) where
-  pub run-after : After (spareFaults s bytes spare) (outside k (columns s) ∷ outside first (s .p) ∷ fault 9 (not (isAccepted s k plan)) ∷ []) (runFaults s bytes spare k plan first)
+  pub run-after : After (spareFaults s bytes spare) (outside k (columns s) ∷ outside first (s .p) ∷ fault 9 (not (isAccepted s (columnOf s k) plan)) ∷ [])
+      (runFaults s bytes spare k plan first)
   unfolding runFaults spareFaults order
   run-after = after (spareFaults s bytes spare) _ refl refl
 
-  -- a run that is not refused is right
-  pub run-accepted : refusal (runFaults s bytes spare k plan first) ≡ 0 → RunRight s bytes spare k plan first
-  run-accepted none =
-      let n = run-after .none none in
-      record {
-        buffers = buffers-right s bytes spare k (n .0) (leb-false (columns s) k (n .1 .0));
-        accepted = not-false (isAccepted s k plan) (n .1 .1 .1 .0);
-        start = leb-false (s .p) first (n .1 .1 .0);
-      }
+  module _ (none : refusal (runFaults s bytes spare k plan first) ≡ 0) where
+    -- a run that is not refused is for a place where a column of RDP lies
+    pub run-asked : SpareRight s bytes spare k
+    run-asked = let n = run-after .none none in buffers-right s bytes spare k (n .0) (leb-false (columns s) k (n .1 .0))
+
+    -- and it is right for that column
+    pub run-accepted : RunRight s bytes spare (columnOf s k) plan first
+    run-accepted =
+        let n = run-after .none none in
+        record {
+          buffers = record { of = lying s k (run-asked .of); long = run-asked .long; whole = run-asked .whole };
+          accepted = not-false (isAccepted s (columnOf s k) plan) (n .1 .1 .1 .0);
+          start = leb-false (s .p) first (n .1 .1 .0);
+        }
 
 -- ---- a show
 

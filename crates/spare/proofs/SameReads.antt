@@ -15,53 +15,59 @@ use Rattle.codes.specs.declared.Shape.{Shape}
 use Rattle.codes.specs.declared.Counted.{Counted}
 use Rattle.codes.specs.declared.Counted.the-variants.{Count}
 use Rattle.codes.specs.Shape.{rows, cells, cellNumber, WellFormed}
+use Rattle.codes.specs.Geometry.{columnOf}
+use Rattle.codes.specs.Agree.{Agree}
 use Rattle.codes.specs.Encoded.{byteAt}
 use Rattle.codes.specs.Holders.{holds}
 use Rattle.codes.specs.Refusals.{refusal}
-use Rattle.codes.proofs.Parity.{same-cells}
 use Rattle.codes.proofs.Answer.{one-answer}
-use Rattle.spare.specs.Plan.{chosen, readsCell}
+use Rattle.plan.specs.Plan.{chosen, readsCell}
 use Rattle.spare.specs.Refusals.{runFaults}
-use Rattle.spare.specs.Run.{rowsRun, rebuiltByte, others, RowsRebuilt, RunsByPlan, AgreeOnReads}
+use Rattle.spare.specs.Run.{rowsRun, rebuiltByte, others, spareByte, RowsRebuilt, RunsByPlan}
+use Rattle.spare.proofs.Column.{same-rows}
 use Rattle.spare.proofs.Refused.{run-accepted}
-use Rattle.spare.proofs.Column.{last-row}
+use Rattle.plan.proofs.Column.{last-row}
 
--- a rebuilt row is the same
-pub row-same : (s : Shape) (k plan : ℕ) (stripe stripe′ : List ℕ) → AgreeOnReads s k plan stripe stripe′
+-- whether a plan for column k leaves cell c unread
+abbrev pub unread : Shape → ℕ → ℕ → ℕ → Bool
+unread s k plan c = not (readsCell s k plan c)
+
+-- a row of column k that is rebuilt from stripes that agree on the cells the plan reads is the same
+pub row-same : (s : Shape) (k plan : ℕ) (stripe stripe′ : List ℕ) → Agree s (unread s k plan) stripe stripe′
     → (i : ℕ) → i < rows s → (t : ℕ) → t < s .cell → rebuiltByte s k plan stripe i t ≡ rebuiltByte s k plan stripe′ i t
 unfolding rebuiltByte others readsCell
 row-same s k plan stripe stripe′ agree i li t lt =
     xors-same (cells s) (λ c. cond (read i c) (byteAt s stripe c t) 0) (λ c. cond (read i c) (byteAt s stripe′ c t) 0)
-    (λ c lc. by-test (read i c) (λ p. ap (λ (x : ℕ). cond (read i c) x 0) (agree .same c lc (any-at (rows s) (λ j. read j c) i li p) t lt)) (λ p. rw p refl))
+    (λ c lc. by-test (read i c) (λ p. ap (λ (x : ℕ). cond (read i c) x 0) (agree .same c lc (ap not (any-at (rows s) (λ j. read j c) i li p)) t lt)) (λ p. rw p refl))
   where
     read : ℕ → ℕ → Bool
     read j c = holds s (chosen s k plan j) c && not (eqb c (cellNumber s j k))
 
 -- rows rebuilt from such stripes into equal spares
-rows-same : (s : Shape) → WellFormed s → (k plan first n : ℕ) (stripe stripe′ old x y : List ℕ) → AgreeOnReads s k plan stripe stripe′ → length old ≡ rows s * s .cell
+rows-same : (s : Shape) → WellFormed s → (k plan first n : ℕ) (stripe stripe′ old x y : List ℕ) → Agree s (unread s k plan) stripe stripe′ → length old ≡ rows s * s .cell
     → RowsRebuilt s k plan first n stripe old x → RowsRebuilt s k plan first n stripe′ old y → x ≡ y
 rows-same s w k plan first n stripe stripe′ old x y agree whole hx hy =
-    same-cells s w (rows s) x y (hx .long ∙ whole) (hy .long ∙ whole)
+    same-rows s w x y (hx .long ∙ whole) (hy .long ∙ whole)
     (λ i li t lt. by-less i first (λ l. other i t lt (inl l))
     (λ lo. by-less i (first + n) (λ hi. hx .rebuilt i lo hi t lt ∙ row-same s k plan stripe stripe′ agree i li t lt ∙ sym (hy .rebuilt i lo hi t lt)) (λ l. other i t lt (inr l))))
   where
-    other : (i t : ℕ) → t < s .cell → (i < first) ⊎ (first + n ≤ i) → byteAt s x i t ≡ byteAt s y i t
+    other : (i t : ℕ) → t < s .cell → (i < first) ⊎ (first + n ≤ i) → spareByte s x i t ≡ spareByte s y i t
     other i t lt side = hx .kept i side t lt ∙ sym (hy .kept i side t lt)
 
 module _ (s : Shape) (k plan first budget : ℕ) where
   -- two stripes that agree on the cells the plan reads, run with equal numbers from equal spares: the same answer and the same spare
-  pub same-reads : (stripe stripe′ old : List ℕ) (x y : List ℕ) (a b : Counted) → length stripe ≡ length stripe′ → AgreeOnReads s k plan stripe stripe′
+  pub same-reads : (stripe stripe′ old : List ℕ) (x y : List ℕ) (a b : Counted) → length stripe ≡ length stripe′ → Agree s (unread s (columnOf s k) plan) stripe stripe′
       → RunsByPlan s k plan first budget stripe old x a → RunsByPlan s k plan first budget stripe′ old y b → (a ≡ b) × (x ≡ y)
   same-reads stripe stripe′ old x y a b long agree =
       one-answer (runFaults s (length stripe) (length old) k plan first) (runFaults s (length stripe′) (length old) k plan first) old x y (done stripe x) (done stripe′ y)
       (ap (λ (n : ℕ). refusal (runFaults s n (length old) k plan first)) long)
       (λ z m n hm hn.
       let right = run-accepted s (length stripe) (length old) k plan first z in
-      (hm .0 ∙ sym (hn .0), rows-same s (right .buffers .of .formed) k plan first (rowsRun s first budget) stripe stripe′ old x y agree (right .buffers .whole) (hm .1) (hn .1)))
+      (hm .0 ∙ sym (hn .0), rows-same s (right .buffers .of .formed) (columnOf s k) plan first (rowsRun s first budget) stripe stripe′ old x y agree (right .buffers .whole) (hm .1) (hn .1)))
       a b
     where
       done : List ℕ → List ℕ → ℕ → Type 0
-      done from new n = (n ≡ rowsRun s first budget) × RowsRebuilt s k plan first (rowsRun s first budget) from old new
+      done from new n = (n ≡ rowsRun s first budget) × RowsRebuilt s (columnOf s k) plan first (rowsRun s first budget) from old new
 
   module _ (stripe old : List ℕ) where
     -- any two results that the contract allows are equal
@@ -73,10 +79,10 @@ module _ (s : Shape) (k plan first budget : ℕ) where
     unfolding rowsRun
     run-nothing side n x h =
         let right = run-accepted s (length stripe) (length old) k plan first (sym (h .0)) in
-        let none = ⊎-elim no-budget (λ e. no-row (e ∙ last-row s k (right .buffers .of))) side in
+        let none = ⊎-elim no-budget (λ e. no-row (e ∙ last-row s (columnOf s k) (right .buffers .of))) side in
         let done = h .1 in (
           done .0 ∙ none,
-          same-cells s (right .buffers .of .formed) (rows s) x old (done .1 .long ∙ right .buffers .whole) (right .buffers .whole)
+          same-rows s (right .buffers .of .formed) x old (done .1 .long ∙ right .buffers .whole) (right .buffers .whole)
               (λ i li t lt. done .1 .kept i (by-less i first (λ l. inl l) (λ l. inr (omega (arith, none)))) t lt),
         )
       where

@@ -9,10 +9,12 @@ use Rattle.xor.proofs.Cases.{by-equal}
 use Rattle.xor.proofs.Runs.{part-long, part-byte}
 use Rattle.codes.specs.declared.Shape.{Shape}
 use Rattle.codes.specs.Shape.{cellNumber}
+use Rattle.codes.specs.Geometry.{columnOf}
 use Rattle.codes.specs.Encoded.{byteAt}
 use Rattle.spare.specs.declared.ShownAt.{ShownAt}
 use Rattle.spare.specs.declared.ShownAt.the-variants.{Stripe, Spare, Refused}
-use Rattle.spare.specs.Show.{Lent, PartOf, SamePart, reason, Shows, shownNumber, Shown}
+use Rattle.spare.specs.Run.{spareByte}
+use Rattle.spare.specs.Show.{Lent, PartOf, SamePart, reason, shownPlace, Shows, shownNumber, Shown}
 use Rattle.spare.proofs.Refused.{show-accepted}
 use Rattle.spare.proofs.Showing.{in-stripe, in-spare}
 
@@ -37,7 +39,7 @@ module _ (s : Shape) (k done row column : ℕ) (stripe spare : Lent) where
       by-equal (reason s k done row column stripe spare) 0
       (λ none. by-equal column k
       (λ e. part-one spare (row * s .cell) (s .cell) a b (x .ready none e) (y .ready none e))
-      (λ n. part-one stripe (cellNumber s row column * s .cell) (s .cell) a b (x .other none n) (y .other none n)))
+      (λ n. part-one stripe (shownPlace s row column) (s .cell) a b (x .other none n) (y .other none n)))
       (λ n. part-one stripe 0 0 a b (x .refused n) (y .refused n))
 
   pub reason-one : (a b : ℕ) → a ≡ reason s k done row column stripe spare → b ≡ reason s k done row column stripe spare → a ≡ b
@@ -66,13 +68,13 @@ module _ (s : Shape) (bytes spare k done row column : ℕ) where
 module _ (s : Shape) (k done row column : ℕ) (stripe spare answer : Lent) (h : Shows s k done row column stripe spare answer) where
   module _ (none : reason s k done row column stripe spare ≡ 0) where
     -- the bytes of a cell of another column are the stripe's
-    pub shown-is-cell : column ≢ k → (t : ℕ) → t < s .cell → getD (answer .now) t 0 ≡ byteAt s (stripe .now) (cellNumber s row column) t
+    pub shown-is-cell : column ≢ k → (t : ℕ) → t < s .cell → getD (answer .now) t 0 ≡ byteAt s (stripe .now) (cellNumber s row (columnOf s column)) t
     unfolding byteAt
-    shown-is-cell n = shown-byte stripe (cellNumber s row column * s .cell) (s .cell) answer (h .other none n)
+    shown-is-cell n = shown-byte stripe (shownPlace s row column) (s .cell) answer (h .other none n)
 
     -- those of a cell of column k are the spare's, of the same row
-    pub shown-is-spare : column ≡ k → (t : ℕ) → t < s .cell → getD (answer .now) t 0 ≡ byteAt s (spare .now) row t
-    unfolding byteAt
+    pub shown-is-spare : column ≡ k → (t : ℕ) → t < s .cell → getD (answer .now) t 0 ≡ spareByte s (spare .now) row t
+    unfolding spareByte
     shown-is-spare e = shown-byte spare (row * s .cell) (s .cell) answer (h .ready none e)
 
     -- it is a whole cell
@@ -81,7 +83,7 @@ module _ (s : Shape) (k done row column : ℕ) (stripe spare answer : Lent) (h :
         let right = show-accepted s (length (stripe .now)) (length (spare .now)) k done row column none in
         by-equal column k
         (λ e. shown-long spare (row * s .cell) (s .cell) answer (h .ready none e) (in-spare s (length (stripe .now)) (length (spare .now)) k done row column right))
-        (λ n. shown-long stripe (cellNumber s row column * s .cell) (s .cell) answer (h .other none n) (in-stripe s (length (stripe .now)) (length (spare .now)) k done row column right))
+        (λ n. shown-long stripe (shownPlace s row column) (s .cell) answer (h .other none n) (in-stripe s (length (stripe .now)) (length (spare .now)) k done row column right))
 
   -- the part is empty exactly where the reason is not 0
   pub empty-where-refused : reason s k done row column stripe spare ≢ 0 → length (answer .now) ≡ 0

@@ -7,24 +7,25 @@ use lib.ListN.{length, take, drop}
 use Rattle.xor.proofs.Cases.{by-equal}
 use Rattle.codes.specs.declared.Shape.{Shape}
 use Rattle.codes.specs.Shape.{cellNumber}
+use Rattle.codes.specs.Geometry.{columnOf, place}
 use Rattle.codes.specs.Refusals.{refusal}
-use Rattle.codes.proofs.Places.{cell-ends}
+use Rattle.codes.proofs.Geometry.{column-there, place-inside}
 use Rattle.codes.proofs.Positions.{cell-inside}
 use Rattle.codes.proofs.Shapes.{length-high}
 use Rattle.spare.specs.declared.ShownAt.{ShownAt}
 use Rattle.spare.specs.declared.ShownAt.the-variants.{Stripe, Spare, Refused}
 use Rattle.spare.specs.Refusals.{showFaults}
-use Rattle.spare.specs.Show.{Lent, PartOf, reason, Shows, shownNumber, Shown}
+use Rattle.spare.specs.Show.{Lent, PartOf, reason, shownPlace, Shows, shownNumber, Shown}
 use Rattle.spare.proofs.Column.{row-ends, row-small}
 use Rattle.spare.proofs.Refused.{ShowRight, show-accepted}
 
 -- ---- where a cell ends that is shown
 
 module _ (s : Shape) (bytes spare k done row column : ℕ) (r : ShowRight s bytes spare k done row column) where
-  pub in-stripe : cellNumber s row column * s .cell + s .cell ≤ bytes
+  pub in-stripe : shownPlace s row column + s .cell ≤ bytes
   in-stripe =
       let formed = r .buffers .of .formed in
-      omega (arith, r .buffers .long, cell-ends s formed (cellNumber s row column) (cell-inside s formed row column (r .low) (r .right)))
+      omega (arith, r .buffers .long, place-inside s formed (cellNumber s row (columnOf s column)) (cell-inside s formed row (columnOf s column) (r .low) (column-there s column (r .right))))
 
   pub in-spare : row * s .cell + s .cell ≤ spare
   in-spare = row-ends s spare (r .buffers .whole) row (r .low)
@@ -39,8 +40,8 @@ module _ (s : Shape) (bytes spare k done row column : ℕ) where
     pub shown-spare : column ≡ k → Shown s bytes spare k done row column (Spare (row * s .cell))
     shown-spare e = record { number = sym none; other = λ _ n. absurd (n e); ready = λ _ _. refl }
 
-    pub shown-stripe : (at : ℕ) → at ≡ cellNumber s row column * s .cell → column ≢ k → Shown s bytes spare k done row column (Stripe at)
-    shown-stripe at p n = record { number = sym none; other = λ _ _. ap Stripe p; ready = λ _ e. absurd (n e) }
+    pub shown-stripe : (at j : ℕ) → j ≡ columnOf s column → at ≡ place s (cellNumber s row j) → column ≢ k → Shown s bytes spare k done row column (Stripe at)
+    shown-stripe at j lies p n = record { number = sym none; other = λ _ _. ap Stripe (p ∙ ap (λ (x : ℕ). place s (cellNumber s row x)) lies); ready = λ _ e. absurd (n e) }
 
 -- which buffer an answer names, and where in it
 which : ShownAt → ℕ
@@ -48,10 +49,10 @@ which (Stripe at) = 0
 which (Spare at) = 1
 which (Refused number) = 2
 
-place : ShownAt → ℕ
-place (Stripe at) = at
-place (Spare at) = at
-place (Refused number) = 0
+where-in : ShownAt → ℕ
+where-in (Stripe at) = at
+where-in (Spare at) = at
+where-in (Refused number) = 0
 
 -- two answers that name two buffers differ
 differ : {A : Type 0} {x y : ShownAt} → x ≡ y → which x ≢ which y → A
@@ -78,9 +79,9 @@ module _ (s : Shape) (k done row column : ℕ) (stripe spare : Lent) (said : Sho
     unfolding which
     another same = differ (sym e ∙ h .ready (ap shownNumber e) same) (λ (two : _≡_ {A = ℕ} 0 1). omega arith)
 
-    stripe-place : at ≡ cellNumber s row column * s .cell
-    unfolding place
-    stripe-place = ap place (sym e ∙ h .other (ap shownNumber e) another)
+    stripe-place : at ≡ shownPlace s row column
+    unfolding where-in
+    stripe-place = ap where-in (sym e ∙ h .other (ap shownNumber e) another)
 
     pub stripe-ends : at + s .cell ≤ length (stripe .now)
     stripe-ends = omega (arith, stripe-place, in-stripe s (length (stripe .now)) (length (spare .now)) k done row column (right-of stripe-none))
@@ -101,8 +102,8 @@ module _ (s : Shape) (k done row column : ℕ) (stripe spare : Lent) (said : Sho
     lost-one = by-equal column k (λ same. same) (λ n. differ (sym e ∙ h .other (ap shownNumber e) n) (λ (two : _≡_ {A = ℕ} 1 0). omega arith))
 
     spare-place : at ≡ row * s .cell
-    unfolding place
-    spare-place = ap place (sym e ∙ h .ready (ap shownNumber e) lost-one)
+    unfolding where-in
+    spare-place = ap where-in (sym e ∙ h .ready (ap shownNumber e) lost-one)
 
     pub spare-ends : at + s .cell ≤ length (spare .now)
     spare-ends = omega (arith, spare-place, in-spare s (length (stripe .now)) (length (spare .now)) k done row column (right-of spare-none))

@@ -3,7 +3,7 @@ use mathlib.Core.Path.{_≡_, refl, sym, ap, ap₂, _∙_, subst}
 use mathlib.Core.Logic.{_≢_}
 use mathlib.Core.List.{List}
 use mathlib.Core.Bool.{true, cond}
-use Prim.Native.Nat.{ℕ, _+_, _*_, _<_}
+use Prim.Native.Nat.{ℕ, _+_, _<_}
 use native.Mathlib.Omega.{arith}
 use lib.Dec.{eqb}
 use lib.ListN.{length, getD}
@@ -15,10 +15,11 @@ use Rattle.xor.proofs.Algebra.{⊕-zero, ⊕-comm, ⊕-assoc, ⊕-self, ⊕-can
 use Rattle.xor.proofs.Sums.{xors-same, xors-one, xors-plus, set-apart}
 use Rattle.codes.specs.declared.Shape.{Shape}
 use Rattle.codes.specs.Shape.{cells, equations, stripeLength, WellFormed}
+use Rattle.codes.specs.Geometry.{place}
 use Rattle.codes.specs.Encoded.{parityCell, byteAt, sumOver, total}
 use Rattle.codes.specs.Holders.{holds}
 use Rattle.codes.proofs.Ordered.{ordered}
-use Rattle.codes.proofs.Places.{cell-ends}
+use Rattle.codes.proofs.Geometry.{place-inside}
 use Rattle.codes.proofs.Solutions.{total-holds}
 use Rattle.spare.specs.Run.{others}
 
@@ -66,32 +67,32 @@ module _ (s : Shape) (q own : ℕ) (h : Held s q own) where
   module _ (n : ℕ) (g : ℕ → ℕ) (below : (j : ℕ) → j < n → g j < cells s) (sum : (f : ℕ → ℕ) → sumOver s q f ≡ xors n (λ j. f (g j)))
       (at : ℕ) (places : List ℕ) (long : length places ≡ n) where
     in-slots : (cell : ℕ → ℕ) → ((j : ℕ) → j < n → cell j < cells s) → ((f : ℕ → ℕ) → xors n (λ j. f (cell j)) ≡ others s q own f)
-        → ((j : ℕ) → j < n → getD places j 0 + at ≡ cell j * s .cell) → OthersAt s q own at places
+        → ((j : ℕ) → j < n → getD places j 0 + at ≡ place s (cell j)) → OthersAt s q own at places
     unfolding sumAt byteAt
-    in-slots cell inside is place = record {
-      inside = record { ends = λ j lj. let l : j < n = omega arith in omega (arith, place j l, cell-ends s (h .formed) (cell j) (inside j l)) };
+    in-slots cell inside is at-place = record {
+      inside = record { ends = λ j lj. let l : j < n = omega arith in omega (arith, at-place j l, place-inside s (h .formed) (cell j) (inside j l)) };
       sum = λ stripe t.
           ap (λ (m : ℕ). xors m (λ j. getD stripe (getD places j 0 + (at + t)) 0)) long
-          ∙ xors-same n (λ j. getD stripe (getD places j 0 + (at + t)) 0) (λ j. getD stripe (cell j * s .cell + t) 0)
-          (λ j lj. ap (λ (x : ℕ). getD stripe x 0) (let exact : getD places j 0 + (at + t) ≡ cell j * s .cell + t = omega (arith, place j lj) in exact))
-          ∙ is (λ c. getD stripe (c * s .cell + t) 0);
+          ∙ xors-same n (λ j. getD stripe (getD places j 0 + (at + t)) 0) (λ j. getD stripe (place s (cell j) + t) 0)
+          (λ j lj. ap (λ (x : ℕ). getD stripe x 0) (let exact : getD places j 0 + (at + t) ≡ place s (cell j) + t = omega (arith, at-place j lj) in exact))
+          ∙ is (λ c. getD stripe (place s c + t) 0);
     }
 
     -- the own cell is the equation's parity cell
-    pub others-kept : own ≡ parityCell s q → ((j : ℕ) → j < n → getD places j 0 + at ≡ g j * s .cell) → OthersAt s q own at places
+    pub others-kept : own ≡ parityCell s q → ((j : ℕ) → j < n → getD places j 0 + at ≡ place s (g j)) → OthersAt s q own at places
     others-kept e = in-slots g below (λ f. sym (sum f) ∙ others-of-parity e f)
 
     -- the own cell is that of slot m: the parity cell is there
-    pub others-swapped : (m : ℕ) → m < n → g m ≡ own → getD places m 0 + at ≡ parityCell s q * s .cell
-        → ((j : ℕ) → j < n → j ≢ m → getD places j 0 + at ≡ g j * s .cell) → OthersAt s q own at places
+    pub others-swapped : (m : ℕ) → m < n → g m ≡ own → getD places m 0 + at ≡ place s (parityCell s q)
+        → ((j : ℕ) → j < n → j ≢ m → getD places j 0 + at ≡ place s (g j)) → OthersAt s q own at places
     others-swapped m lm e here off =
         in-slots cell
         (λ j lj. by-equal j m (λ z. subst (λ (c : ℕ). c < cells s) (sym (cell-here j z)) (ordered s (h .formed) .inside q (h .equation)))
         (λ z. subst (λ (c : ℕ). c < cells s) (sym (cell-off j z)) (below j lj)))
         (λ f. changed n (λ j. f (cell j)) (λ j. f (g j)) m lm (λ j lj z. ap f (cell-off j z))
         ∙ ap₂ _⊕_ (sym (sum f)) (ap₂ (λ (x y : ℕ). f x ⊕ f y) (cell-here m refl) e) ∙ others-of-summed f)
-        (λ j lj. by-equal j m (λ z. ap (λ (i : ℕ). getD places i 0 + at) z ∙ here ∙ ap (λ (c : ℕ). c * s .cell) (sym (cell-here j z)))
-        (λ z. off j lj z ∙ ap (λ (c : ℕ). c * s .cell) (sym (cell-off j z))))
+        (λ j lj. by-equal j m (λ z. ap (λ (i : ℕ). getD places i 0 + at) z ∙ here ∙ ap (place s) (sym (cell-here j z)))
+        (λ z. off j lj z ∙ ap (place s) (sym (cell-off j z))))
       where
         cell : ℕ → ℕ
         cell j = cond (eqb j m) (parityCell s q) (g j)

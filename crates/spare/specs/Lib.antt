@@ -1,7 +1,6 @@
-pub mod Plan
 pub mod Refusals
-pub mod Run
 pub mod Right
+pub mod Run
 pub mod Places
 pub mod Runs
 pub mod Show

@@ -3,34 +3,57 @@ use mathlib.Core.Path.{_≡_}
 use mathlib.Core.Logic.{_≢_}
 use mathlib.Core.List.{List}
 use mathlib.Core.Bool.{true}
-use Prim.Native.Nat.{ℕ, _+_, _-_, _*_, _<_}
+use Prim.Native.Nat.{ℕ, _+_, _-_, _*_, _%_, _<_}
 use lib.ListN.{length, getD}
 use Rattle.codes.specs.declared.Shape.{Shape}
-use Rattle.codes.specs.Shape.{rows, stripeLength}
-use Rattle.spare.specs.Plan.{isAccepted}
-use Rattle.spare.specs.Right.{RdpColumn}
+use Rattle.codes.specs.Shape.{rows, cellNumber, stripeLength}
+use Rattle.codes.specs.Geometry.{columnOf, place}
+use Rattle.plan.specs.Plan.{diagonal, isAccepted}
+use Rattle.plan.specs.Right.{RdpColumn}
 
--- the places have, for each of the first p-1 columns, where its cell in row 0 starts; the row parity column's stands in for column k's
+-- where column j starts
+abbrev pub starts : Shape → ℕ → ℕ
+starts s j = place s (cellNumber s 0 j)
+
+-- the places have, for each of the first p-1 columns, where it starts; the row parity column's start stands in for column k's
 pub record RowPlaces (s : Shape) (k : ℕ) (places : List ℕ) : Type 0 where
   pub long : length places ≡ 32
-  pub other : (j : ℕ) → j < rows s → j ≢ k → getD places j 0 ≡ j * rows s * s .cell
-  pub parity : k < rows s → getD places k 0 ≡ rows s * rows s * s .cell
+  pub other : (j : ℕ) → j < s .p - 1 → j ≢ k → getD places j 0 ≡ starts s j
+  pub parity : k < s .p - 1 → getD places k 0 ≡ starts s (s .p - 1)
 
--- two slots of a column: places′ are the places with `above` in slot p-1-j and `below` p slots later, and the slots of the other columns kept
-pub record ColumnPut (p j above below : ℕ) (places places′ : List ℕ) : Type 0 where
+-- the column that leads: the one that lies first, or column 0 where that is the diagonal parity column
+unfoldable pub leader : Shape → ℕ
+leader s = columnOf s 0 % s .p
+
+-- the column that slot x is for: slot p-1 is for the one that leads, and each next slot for the column before, from column 0 back to p-1
+unfoldable pub inSlot : Shape → ℕ → ℕ
+inSlot s x = (s .p - 1 + s .p - x + leader s) % s .p
+
+-- two slots of a column: places′ are the places with `above` in slot p-1-t and `below` p slots later, and the slots of the other columns kept
+pub record ColumnPut (p t above below : ℕ) (places places′ : List ℕ) : Type 0 where
   pub long : length places′ ≡ length places
-  pub first : getD places′ (p - 1 - j) 0 ≡ above
-  pub second : getD places′ (p - 1 - j + p) 0 ≡ below
-  pub kept : (m : ℕ) → m < p → m ≢ j → (getD places′ (p - 1 - m) 0 ≡ getD places (p - 1 - m) 0) × (getD places′ (p - 1 - m + p) 0 ≡ getD places (p - 1 - m + p) 0)
+  pub first : getD places′ (p - 1 - t) 0 ≡ above
+  pub second : getD places′ (p - 1 - t + p) 0 ≡ below
+  pub kept : (m : ℕ) → m < p → m ≢ t → (getD places′ (p - 1 - m) 0 ≡ getD places (p - 1 - m) 0) × (getD places′ (p - 1 - m + p) 0 ≡ getD places (p - 1 - m + p) 0)
 
--- the places have, for each of the first p columns, where its cell on diagonal d starts, less d cells: where that is in row d-j of column j,
--- and where it is in row d+p-j; the diagonal parity column's stands in for column k's
+-- slot x has where its column starts, and x cells more, all less p-1 cells; but for column k's slots
 pub record DiagonalPlaces (s : Shape) (k : ℕ) (places : List ℕ) : Type 0 where
   pub long : length places ≡ 64
-  pub above : (j : ℕ) → j < s .p → j ≢ k → getD places (s .p - 1 - j) 0 ≡ j * (rows s - 1) * s .cell
-  pub below : (j : ℕ) → j < s .p → j ≢ k → getD places (s .p - 1 - j + s .p) 0 ≡ (j * (rows s - 1) + s .p) * s .cell
-  pub parity-above : k < s .p → getD places (s .p - 1 - k) 0 ≡ s .p * rows s * s .cell
-  pub parity-below : k < s .p → getD places (s .p - 1 - k + s .p) 0 ≡ s .p * rows s * s .cell
+  pub slot : (x : ℕ) → x < s .p - 1 + s .p → inSlot s x ≢ k → getD places x 0 + (s .p - 1) * s .cell ≡ starts s (inSlot s x) + x * s .cell
+
+-- row i of column k is on a diagonal that is not the missing one
+abbrev pub OnDiagonal : Shape → ℕ → ℕ → Type 0
+OnDiagonal s k i = (i < rows s) × (diagonal s k i < rows s)
+
+-- the row in which the diagonal of row i of column k meets the column that leads; p-1 where it does not
+unfoldable pub meets : Shape → ℕ → ℕ → ℕ
+meets s k i = (diagonal s k i + (s .p - leader s)) % s .p
+
+-- the p-1 slots from p-1-r on have where the other cells of the diagonal start, less r cells: its parity cell's place stands in for column k's
+pub record Aimed (s : Shape) (k i r : ℕ) (places : List ℕ) : Type 0 where
+  pub row : r ≡ meets s k i
+  pub listed : DiagonalPlaces s k places
+  pub parity : k < s .p → getD places (s .p - 1 - r + i) 0 + r * s .cell ≡ place s (cellNumber s (diagonal s k i) (s .p))
 
 -- row i of a lost column is to be rebuilt by an accepted plan from a stripe of so many bytes
 pub record RowRight (s : Shape) (bytes k plan i : ℕ) : Type 0 where
@@ -38,3 +61,11 @@ pub record RowRight (s : Shape) (bytes k plan i : ℕ) : Type 0 where
   pub long : bytes ≡ stripeLength s
   pub accepted : isAccepted s k plan ≡ true
   pub row : i < rows s
+
+-- such a row, with where its cells start listed, and so many bytes of the spare for it
+pub record RowReady (s : Shape) (bytes k plan i lead part : ℕ) (level slant : List ℕ) : Type 0 where
+  pub right : RowRight s bytes k plan i
+  pub leads : lead ≡ leader s
+  pub by-row : RowPlaces s k level
+  pub by-diagonal : DiagonalPlaces s k slant
+  pub whole : part ≡ s .cell

@@ -1,16 +1,11 @@
--- Calls that are not refused: what is then known of their numbers.
+-- Calls that are not refused: what is then known of their numbers. Column k is as the equations number it.
 use mathlib.Core.Path.{_≡_}
 use mathlib.Core.Bool.{true}
 use Prim.Native.Nat.{ℕ, _*_, _<_}
 use Rattle.codes.specs.declared.Shape.{Shape}
-use Rattle.codes.specs.Shape.{rows, columns, stripeLength, WellFormed}
-use Rattle.spare.specs.Plan.{isAccepted}
-
--- a column of a well-formed RDP stripe
-pub record RdpColumn (s : Shape) (k : ℕ) : Type 0 where
-  pub formed : WellFormed s
-  pub rdp : s .code ≡ 1
-  pub column : k < columns s
+use Rattle.codes.specs.Shape.{rows, stripeLength}
+use Rattle.plan.specs.Plan.{isAccepted}
+use Rattle.plan.specs.Right.{RdpColumn}
 
 -- a stripe and a spare of the right length for a column of RDP
 pub record SpareRight (s : Shape) (bytes spare k : ℕ) : Type 0 where

@@ -1,14 +1,11 @@
 -- Runs by plan one after the other: the same stripe and column, each with its own plan, first row and budget.
 use mathlib.Core.Path.{_≡_}
-use mathlib.Core.Logic.{_≢_}
 use mathlib.Core.List.{List, [], _∷_}
 use mathlib.Core.Bool.{Bool, false, _&&_, _||_}
-use Prim.Native.Nat.{ℕ, _+_, _/_, _<_}
+use Prim.Native.Nat.{ℕ, _+_}
 use lib.Dec.{leb, ltb}
 use Rattle.codes.specs.declared.Shape.{Shape}
 use Rattle.codes.specs.declared.Counted.the-variants.{Count}
-use Rattle.codes.specs.Shape.{rows, cells}
-use Rattle.codes.specs.Encoded.{byteAt}
 use Rattle.spare.specs.Run.{rowsRun, RunsByPlan}
 
 -- the plan, the first row and the budget of one run
@@ -35,7 +32,3 @@ inTurn s turn i = leb (turn .first) i && ltb i (turn .first + rowsRun s (turn .f
 unfoldable pub covers : Shape → List Turn → ℕ → Bool
 covers s [] i = false
 covers s (turn ∷ turns) i = inTurn s turn i || covers s turns i
-
--- two stripes agree on every cell of another column than k
-pub record AgreeBeside (s : Shape) (k : ℕ) (a b : List ℕ) : Type 0 where
-  pub same : (c : ℕ) → c < cells s → c / rows s ≢ k → (t : ℕ) → t < s .cell → byteAt s a c t ≡ byteAt s b c t

@@ -7,6 +7,7 @@ use lib.ListN.{length, take, drop}
 use denote.Ref.{RefT}
 use Rattle.codes.specs.declared.Shape.{Shape}
 use Rattle.codes.specs.Shape.{cellNumber}
+use Rattle.codes.specs.Geometry.{columnOf, place}
 use Rattle.codes.specs.Refusals.{refusal}
 use Rattle.spare.specs.declared.ShownAt.{ShownAt}
 use Rattle.spare.specs.declared.ShownAt.the-variants.{Stripe, Spare, Refused}
@@ -31,10 +32,14 @@ pub record SamePart (a b : Lent) : Type 0 where
   pub place : a .ptr ≡ b .ptr
   pub bytes : a .now ≡ b .now
 
+-- where in the stripe the cell starts that callers call by a row and a column
+abbrev pub shownPlace : Shape → ℕ → ℕ → ℕ
+shownPlace s row column = place s (cellNumber s row (columnOf s column))
+
 -- show gives the cell's part of the stripe, or for column k of the spare; where it is refused, the empty part at the start of the stripe
 pub record Shows (s : Shape) (k done row column : ℕ) (stripe spare answer : Lent) : Type 0 where
   pub refused : reason s k done row column stripe spare ≢ 0 → PartOf stripe 0 0 answer
-  pub other : reason s k done row column stripe spare ≡ 0 → column ≢ k → PartOf stripe (cellNumber s row column * s .cell) (s .cell) answer
+  pub other : reason s k done row column stripe spare ≡ 0 → column ≢ k → PartOf stripe (shownPlace s row column) (s .cell) answer
   pub ready : reason s k done row column stripe spare ≡ 0 → column ≡ k → PartOf spare (row * s .cell) (s .cell) answer
 
 -- the refusal number that an answer gives; 0 where it gives a place
@@ -46,5 +51,5 @@ shownNumber (Refused number) = number
 -- the answer says in which buffer the cell lies, and at which byte of it, or it gives the refusal
 pub record Shown (s : Shape) (bytes spare k done row column : ℕ) (answer : ShownAt) : Type 0 where
   pub number : shownNumber answer ≡ refusal (showFaults s bytes spare k done row column)
-  pub other : shownNumber answer ≡ 0 → column ≢ k → answer ≡ Stripe (cellNumber s row column * s .cell)
+  pub other : shownNumber answer ≡ 0 → column ≢ k → answer ≡ Stripe (shownPlace s row column)
   pub ready : shownNumber answer ≡ 0 → column ≡ k → answer ≡ Spare (row * s .cell)

@@ -1,34 +1,29 @@
-// RDP with one lost column: a plan of what to read, the rebuild by plan into a spare column, and a look at a cell while that runs.
-// Each call takes any numbers and any bytes: what can't be done is refused by its number, with every byte as it was.
+// RDP with one lost column: the rebuild by plan into a spare column, and a look at a cell while that runs.
+// Each call takes any numbers and any bytes: what can't be done is refused by its number, with every byte as it was. Callers number columns as
+// they lie in the stripe; past the refusals column k is as the equations number it.
 ghost use mathlib.Core.Path.{_≡_};
 ghost use mathlib.Core.List.{_∷_};
-ghost use Prim.Native.Nat.{_+_, _-_, _*_, _^_, _≤_, _<_, min};
-ghost use lib.Count.{ones};
+ghost use Prim.Native.Nat.{_+_, _-_, _*_, _≤_, _<_, min};
 ghost use lib.ListN.{length};
-ghost use Rattle.xor.specs.Runs.{Put};
 ghost use Rattle.codes.specs.Shape.{rows, WellFormed};
 ghost use Rattle.codes.specs.Refusals.{refusal};
-ghost use Rattle.spare.specs.Plan.{ByRule, isAccepted};
-ghost use Rattle.spare.specs.Refusals.{rdpFaults, planFaults, spareFaults, runFaults, showFaults};
-ghost use Rattle.spare.specs.Right.{RdpColumn, RunRight};
-ghost use Rattle.spare.specs.Places.{RowPlaces, ColumnPut, DiagonalPlaces, RowRight};
-ghost use Rattle.spare.specs.Run.{Plans, rebuiltByte, RowsRebuilt, RunsByPlan};
+ghost use Rattle.plan.specs.Right.{RdpColumn};
+ghost use Rattle.spare.specs.Refusals.{spareFaults, runFaults, showFaults};
+ghost use Rattle.spare.specs.Right.{RunRight};
+ghost use Rattle.spare.specs.Places.{RowPlaces, leader, ColumnPut, DiagonalPlaces, OnDiagonal, Aimed, RowReady};
+ghost use Rattle.spare.specs.Run.{RowPut, RowsRebuilt, RunsByPlan};
 ghost use Rattle.spare.specs.Show.{reason, Shown, Shows};
 use codes::Counted;
 use codes::Shape;
+pub use plan::PlanAnswer;
+pub use plan::ReadPlan;
+pub use plan::plan;
 
-// A plan for one lost column: bit i of `rows` is 1 where row i is taken by its diagonal and 0 where by its row; how many distinct
-// cells the plan reads.
-pub struct ReadPlan {
-    pub rows: u64,
-    pub reads: usize,
-}
+// A place for each column of a stripe.
+const COLUMNS: usize = 32;
 
-// What plan answers: the plan, or a refusal number.
-pub enum PlanAnswer {
-    Plan(ReadPlan),
-    Refused(usize),
-}
+// Two places for each.
+const SLOTS: usize = 2 * COLUMNS;
 
 // Where a shown cell starts: in the stripe or in the spare; or a refusal number.
 pub enum ShownAt {
@@ -37,44 +32,11 @@ pub enum ShownAt {
     Refused(usize),
 }
 
-// The refusal of a shape that must be RDP's: what is wrong with its code or prime, another code, or its cell size, or 0.
-fn rdp_refusal(shape: Shape) -> usize
-    ensures { λ r. ⌜ r ≡ refusal (rdpFaults shape) ⌝ }
-{
-    let refusal = codes::code_refusal(shape);
-    if refusal != 0 {
-        return refusal;
-    }
-    let size = codes::size_refusal(shape);
-    let code = shape.code;
-    if code != 1 {
-        return 3;
-    }
-    if size != 0 {
-        return size;
-    }
-    0
-}
-
-// The refusal of a plan for column k: the lowest number that applies, or 0.
-fn plan_refusal(shape: Shape, k: usize) -> usize
-    ensures { λ r. ⌜ r ≡ refusal (planFaults shape k) ⌝ }
-{
-    let refusal = rdp_refusal(shape);
-    if refusal != 0 {
-        return refusal;
-    }
-    if codes::column_count(shape) <= k {
-        return 6;
-    }
-    0
-}
-
 // The refusal of a call on a lent stripe and a lent spare of so many bytes: the lowest number that applies, or 0.
 fn spare_refusal(shape: Shape, bytes: usize, spare: usize) -> usize
     ensures { λ r. ⌜ r ≡ refusal (spareFaults shape bytes spare) ⌝ }
 {
-    let refusal = rdp_refusal(shape);
+    let refusal = plan::rdp_refusal(shape);
     if refusal != 0 {
         return refusal;
     }
@@ -87,27 +49,7 @@ fn spare_refusal(shape: Shape, bytes: usize, spare: usize) -> usize
     0
 }
 
-// Whether a plan is accepted. Row p-1-k of a column from 1 to p-1 lies on the missing diagonal and can only be taken by its row; the diagonal
-// parity column can only be taken by its diagonals.
-fn is_accepted(shape: Shape, k: usize, plan: u64) -> bool
-    requires { ⌜ RdpColumn shape k ⌝ }
-    ensures { λ r. ⌜ r ≡ isAccepted shape k plan ⌝ }
-{
-    let last = shape.p - 1;
-    let bound = bits::one_bit(last);
-    if bound <= plan {
-        return false;
-    }
-    if k == shape.p {
-        return plan == bound - 1;
-    }
-    if k == 0 {
-        return true;
-    }
-    plan & bits::one_bit(last - k) == 0
-}
-
-// The refusal of a run for column k by a plan from a first row on: the lowest number that applies, or 0.
+// The refusal of a run for the column at place k by a plan from a first row on: the lowest number that applies, or 0.
 fn run_refusal(shape: Shape, bytes: usize, spare: usize, k: usize, plan: u64, first: usize) -> usize
     ensures { λ r. ⌜ r ≡ refusal (runFaults shape bytes spare k plan first) ⌝ }
 {
@@ -121,13 +63,13 @@ fn run_refusal(shape: Shape, bytes: usize, spare: usize, k: usize, plan: u64, fi
     if shape.p <= first {
         return 6;
     }
-    if !is_accepted(shape, k, plan) {
+    if !plan::is_accepted(shape, codes::column_of(shape, k), plan) {
         return 9;
     }
     0
 }
 
-// The refusal of a show of a row and a column while column k is being rebuilt: the lowest number that applies, or 0.
+// The refusal of a show of a row and a column while the one at place k is being rebuilt: the lowest number that applies, or 0.
 fn show_refusal(
     shape: Shape,
     bytes: usize,
@@ -165,117 +107,91 @@ fn show_refusal(
     0
 }
 
-// The rows that the rule takes by diagonal: all for column p; else the lowest (p - 1) / 2, or one more of the lowest with row p - 1 - k
-// taken out where that is among them.
-fn rule_rows(shape: Shape, k: usize) -> u64
-    requires { ⌜ RdpColumn shape k ⌝ }
-    ensures { λ r. ⌜ ByRule shape k r ⌝ }
-{
-    let n = shape.p - 1;
-    if n < k {
-        return bits::one_bit(n) - 1;
-    }
-    let half = n / 2;
-    let left_out = n - k;
-    if left_out < half {
-        return (bits::one_bit(half + 1) - 1) ^ bits::one_bit(left_out);
-    }
-    bits::one_bit(half) - 1
-}
-
-// How many distinct cells are read where the rows of a mask are taken by diagonal, and the others by row: of (p - 1)² cells each
-// pair of a row of one kind and a row of the other saves one.
-fn reads_by(shape: Shape, rows: u64) -> usize
-    requires { ⌜ WellFormed shape × (rows < 2 ^ (shape .p - 1)) ⌝ }
-    ensures { λ r. ⌜ r ≡ (shape .p - 1) * (shape .p - 1) - ones rows * (shape .p - 1 - ones rows) ⌝ }
-{
-    let n = shape.p - 1;
-    let by_diagonal = u64::count_ones(rows) as usize;
-    n * n - by_diagonal * (n - by_diagonal)
-}
-
-// Plan: which rows of lost column k to take by diagonal and which by row, and how many distinct cells are then read.
-// Answers the plan, or refusal 1, 2, 3, 4 or 6.
-pub fn plan(shape: Shape, k: usize) -> PlanAnswer
-    ensures { λ r. ⌜ Plans shape k r ⌝ }
-{
-    let number = plan_refusal(shape, k);
-    if number != 0 {
-        return PlanAnswer::Refused(number);
-    }
-    let rows = rule_rows(shape, k);
-    let reads = reads_by(shape, rows);
-    PlanAnswer::Plan(ReadPlan { rows, reads })
-}
-
 // Fills in where the cells start from which a row of column k is rebuilt by its row, as if the row were row 0: those in row 0 of the
 // first p - 1 columns. The parity cell's place stands in for column k's.
-fn row_places(shape: Shape, k: usize, places: &mut [usize; 32])
+fn row_places(shape: Shape, k: usize, places: &mut [usize; COLUMNS])
     requires { ⌜ RdpColumn shape k × (length (now places) ≡ 32) ⌝ }
     ensures { λ _. ⌜ RowPlaces shape k (now (places .exit)) ⌝ }
 {
     let n = shape.p - 1;
-    let step = n * shape.cell;
-    let mut at = 0;
     let mut j = 0;
     while j < n {
-        places[j] = at;
-        at += step;
+        places[j] = codes::column_place(shape, j);
         j += 1;
     }
     if k < n {
-        places[k] = at;
+        places[k] = codes::column_place(shape, n);
     }
 }
 
-// Fills in the two slots of column j: that for a diagonal which meets it in row d - j, and p slots later that for one which meets it in
-// row d + p - j. Diagonal d then has its cells, row after row, from slot p - 1 - d on.
-fn put_column(places: &mut [usize; 64], p: usize, j: usize, above: usize, below: usize)
-    requires { ⌜ (p < 32) × (j < p) × (length (now places) ≡ 64) ⌝ }
-    ensures { λ _. ⌜ ColumnPut p j above below (now (places .entry)) (now (places .exit)) ⌝ }
+// The column that leads: the one that lies first, or column 0 where that is the diagonal parity column. Every other of the first p columns
+// starts as many cells into the stripe as a column has.
+fn leading(shape: Shape) -> usize
+    requires { ⌜ WellFormed shape × (shape .code ≡ 1) ⌝ }
+    ensures { λ r. ⌜ r ≡ leader shape ⌝ }
 {
-    let slot = p - 1 - j;
+    codes::turned(0, codes::column_of(shape, 0), shape.p)
+}
+
+// Fills in the two slots of the column that is t past the one that leads: that for a diagonal which meets it in a row t rows above, and p
+// slots later that for one which meets it in a row p - t rows below.
+fn put_column(places: &mut [usize; SLOTS], p: usize, t: usize, above: usize, below: usize)
+    requires { ⌜ (p < 32) × (t < p) × (length (now places) ≡ 64) ⌝ }
+    ensures { λ _. ⌜ ColumnPut p t above below (now (places .entry)) (now (places .exit)) ⌝ }
+{
+    let slot = p - 1 - t;
     places[slot] = above;
     places[slot + p] = below;
 }
 
-// Fills in where the cells start from which a row of column k is rebuilt by its diagonal, as if the diagonal were diagonal 0: those of
-// the first p columns. The parity cell's place stands in for column k's.
-fn diagonal_places(shape: Shape, k: usize, places: &mut [usize; 64])
-    requires { ⌜ RdpColumn shape k × (length (now places) ≡ 64) ⌝ }
-    ensures { λ _. ⌜ DiagonalPlaces shape k (now (places .exit)) ⌝ }
+// Fills in where the cells of a diagonal start, as if it met the column that leads in row 0: those of the first p columns. A diagonal that meets
+// it in row r then has its cells, row after row, from slot p - 1 - r on, each r cells further on.
+fn diagonal_places(shape: Shape, lead: usize, places: &mut [usize; SLOTS])
+    requires { ⌜ WellFormed shape × (shape .code ≡ 1) × (lead ≡ leader shape) × (length (now places) ≡ 64) ⌝ }
+    ensures { λ _. ⌜ DiagonalPlaces shape (shape .p) (now (places .exit)) ⌝ }
 {
     let p = shape.p;
-    let n = p - 1;
-    let step = (n - 1) * shape.cell;
     let turn = p * shape.cell;
-    let mut at = 0;
-    let mut j = 0;
-    while j < p {
-        put_column(places, p, j, at, at + turn);
-        at += step;
-        j += 1;
-    }
-    if k < p {
-        let parity = n * turn;
-        put_column(places, p, k, parity, parity);
+    let mut back = 0;
+    let mut t = 0;
+    while t < p {
+        let at = codes::column_place(shape, codes::turned(t, lead, p)) - back;
+        put_column(places, p, t, at, at + turn);
+        back += shape.cell;
+        t += 1;
     }
 }
 
+// Puts the place of the parity cell of row i's diagonal in for that of column k's cell. Answers the row in which the diagonal meets the column
+// that leads.
+fn aim(shape: Shape, lead: usize, k: usize, i: usize, slant: &mut [usize]) -> usize
+    requires { ⌜ RdpColumn shape k × OnDiagonal shape k i × (lead ≡ leader shape) × DiagonalPlaces shape k (now slant) ⌝ }
+    ensures { λ r. ⌜ Aimed shape k i r (now (slant .exit)) ⌝ }
+{
+    let p = shape.p;
+    let d = codes::turned(i, k, p);
+    let row = codes::turned(d, p - lead, p);
+    if k < p {
+        slant[p - 1 - row + i] = codes::cell_place(shape, d, p) - row * shape.cell;
+    }
+    row
+}
+
 // Rebuilds row i of column k into its part of the spare: the XOR of the other cells of the equation by which the plan takes it. By its row
-// they start i cells past the places in `level`; by diagonal d, d cells past p - 1 places side by side in `slant`.
+// they start i cells past the places in `level`; by its diagonal, as many cells past p - 1 places side by side in `slant` as that is aimed.
 fn rebuild_row(
     shape: Shape,
     stripe: &[u8],
     level: &[usize],
-    slant: &[usize],
+    slant: &mut [usize],
+    lead: usize,
     k: usize,
     plan: u64,
     i: usize,
     part: &mut [u8],
 )
-    requires { ⌜ RowRight shape (length (now stripe)) k plan i × RowPlaces shape k (now level) × DiagonalPlaces shape k (now slant) × (length (now part) ≡ shape .cell) ⌝ }
-    ensures { λ _. ⌜ Put (now (part .entry)) 0 (shape .cell) (rebuiltByte shape k plan (now (stripe .entry)) i) (now (part .exit)) ⌝ }
+    requires { ⌜ RowReady shape (length (now stripe)) k plan i lead (length (now part)) (now level) (now slant) ⌝ }
+    ensures { λ _. ⌜ RowPut shape k plan i (now (stripe .entry)) (now (part .entry)) (now (part .exit)) × DiagonalPlaces shape k (now (slant .exit)) ⌝ }
 {
     let cell = shape.cell;
     let n = shape.p - 1;
@@ -283,10 +199,10 @@ fn rebuild_row(
         xor::put_sum_from(part, 0, stripe, &level[..n], i * cell, cell);
         return;
     }
-    let d = codes::turned(i, k, shape.p);
-    let from = n - d;
+    let row = aim(shape, lead, k, i, slant);
+    let from = n - row;
     let to = from + n;
-    xor::put_sum_from(part, 0, stripe, &slant[from..to], d * cell, cell);
+    xor::put_sum_from(part, 0, stripe, &slant[from..to], row * cell, cell);
 }
 
 // Rebuilds n rows of the spare from the first on, each into its own part: no other byte of the spare changes. Where their cells start is
@@ -303,10 +219,11 @@ fn run_rows(
     requires { ⌜ RunRight shape (length (now stripe)) (length (now spare)) k plan first × (first + n ≤ rows shape) ⌝ }
     ensures { λ _. ⌜ RowsRebuilt shape k plan first n (now (stripe .entry)) (now (spare .entry)) (now (spare .exit)) ⌝ }
 {
-    let mut level = [0usize; 32];
+    let mut level = [0usize; COLUMNS];
     row_places(shape, k, &mut level);
-    let mut slant = [0usize; 64];
-    diagonal_places(shape, k, &mut slant);
+    let lead = leading(shape);
+    let mut slant = [0usize; SLOTS];
+    diagonal_places(shape, lead, &mut slant);
     let cell = shape.cell;
     let end = first + n;
     let mut i = first;
@@ -317,7 +234,8 @@ fn run_rows(
             shape,
             stripe,
             &level,
-            &slant,
+            &mut slant,
+            lead,
             k,
             plan,
             i,
@@ -342,7 +260,7 @@ fn smaller(a: usize, b: usize) -> usize
     if a < b { a } else { b }
 }
 
-// Run by plan: rebuilds column k of an RDP stripe into the spare, from the first row on and at most as many rows as the budget.
+// Run by plan: rebuilds the column at place k of an RDP stripe into the spare, from the first row on and at most as many rows as the budget.
 // Answers how many: the smaller of the budget and of the rows left; or refusal 1, 2, 3, 4, 5, 6 or 9, with every byte as it was.
 pub fn run(
     shape: Shape,
@@ -361,7 +279,8 @@ pub fn run(
     }
     let left = rows_left(shape, first);
     let n = smaller(budget, left);
-    run_rows(shape, stripe, k, plan, spare, first, n);
+    let column = codes::column_of(shape, k);
+    run_rows(shape, stripe, column, plan, spare, first, n);
     Counted::Count(n)
 }
 
@@ -383,9 +302,11 @@ pub fn shown_at(
         return ShownAt::Refused(refusal);
     }
     if column == k {
-        return ShownAt::Spare(row * shape.cell);
+        let at = row * shape.cell;
+        return ShownAt::Spare(at);
     }
-    ShownAt::Stripe(codes::cell_place(shape, row, column))
+    let lies = codes::column_of(shape, column);
+    ShownAt::Stripe(codes::cell_place(shape, row, lies))
 }
 
 // Show: the cell in a row and a column while column k is being rebuilt and the rows below `done` are in the spare: that very part of the

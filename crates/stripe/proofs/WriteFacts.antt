@@ -1,5 +1,5 @@
 -- What follows for a small write: an encoded stripe stays encoded, with the new cell in place; one content and one count; how many parity cells depend on a position.
-use mathlib.Core.Path.{_≡_, refl, sym, ap, ap₂, _∙_}
+use mathlib.Core.Path.{_≡_, sym, ap, ap₂, _∙_}
 use mathlib.Core.Logic.{_≢_}
 use mathlib.Core.List.{List}
 use mathlib.Core.Bool.{false, cond, not, _&&_, _||_}

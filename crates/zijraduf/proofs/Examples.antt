@@ -16,6 +16,7 @@ use Rattle.elimination.specs.Solution.{syndrome}
 use Rattle.elimination.specs.Method.{run}
 use Rattle.codes.specs.declared.Shape.{Shape}
 use Rattle.codes.specs.Shape.{listed, rows, columns, equations, cells, cellNumber, stripeLength, WellFormed}
+use Rattle.codes.specs.Geometry.{columnOf, liesAt, cellAt, cellOf, callersCell, place}
 use Rattle.codes.specs.Equations.{equation}
 use Rattle.codes.specs.Encoded.{parityCell, sumsCell, byteAt, sumOver, parityByte, isParity, Encoded, fails, brokenEquations}
 use Rattle.codes.specs.Refusals.{order, applies, firstOf, refusal, shapeFaults, stripeFaults, writeFaults}
@@ -23,19 +24,21 @@ use Rattle.codes.specs.Holders.{holds}
 use Rattle.codes.specs.Depends.{WriteRight}
 use Rattle.codes.proofs.Refused.{accepted, write-accepted}
 use Rattle.codes.proofs.Positions.{cell-inside}
+use Rattle.codes.proofs.Geometry.{column-there}
 use Rattle.stripe.specs.Write.{Written, Depending}
+use Rattle.stripe.proofs.BrokenFacts.{not-failing}
 use Rattle.stripe.proofs.Encoding.{settled}
 use Rattle.stripe.proofs.Exists.{point, unit-exists, written-alone}
-use Rattle.codes.specs.Agree.{inColumns}
+use Rattle.codes.specs.Agree.{inColumns, callersColumns}
 use Rattle.decide.specs.Survivors.{named}
 use Rattle.bad.specs.declared.BadColumn.{BadColumn}
 use Rattle.bad.specs.declared.BadColumn.the-variants.{Clean, Column, Unexplained, Refused}
 use Rattle.bad.specs.Bad.{Replaceable, badNumber, Finding}
-use Rattle.bad.proofs.OneBad.{none-fails}
-use Rattle.rebuild.proofs.Never.{columns-determined}
+use Rattle.decide.proofs.Determined.{columns-determined}
 use Rattle.rebuild.proofs.Computed.{outcome, stops, stops-undetermined, passes-determined, fits, fits-restores, unfit-none}
-use Rattle.spare.specs.Plan.{diagonal, chosen, readsCell, cellsRead, byRule, isAccepted}
-use Rattle.spare.specs.Refusals.{planFaults, spareFaults, runFaults}
+use Rattle.plan.specs.Plan.{diagonal, chosen, readsCell, cellsRead, byRule, isAccepted}
+use Rattle.plan.specs.Refusals.{planFaults}
+use Rattle.spare.specs.Refusals.{spareFaults, runFaults}
 use Rattle.zijraduf.specs.Examples.{Claim, encoded, broken, written, undetermined, determined, found, planned, runRefused, Example, table, Claims, Holds, AllHold}
 
 -- the difference put alone and encoded, byte t of it in cell k
@@ -51,7 +54,7 @@ depending s c = count (cells s) (λ k. isParity s k && not (eqb (settled s (equa
 
 -- whether the replacement of column c alone makes the stripe encoded
 replaces : Shape → List ℕ → ℕ → Bool
-replaces s stripe c = fits s (inColumns s c c) stripe (outcome s (inColumns s c c))
+replaces s stripe c = fits s (callersColumns s c c) stripe (outcome s (callersColumns s c c))
 
 -- whether some number of a list is no byte
 wide : List ℕ → Bool
@@ -69,18 +72,18 @@ claimed s stripe encoded = not (any (equations s) (fails s stripe))
 claimed s stripe (broken n) = eqb (brokenEquations s stripe) n
 claimed s stripe (written row column bytes new n) =
     eqb (refusal (writeFaults s (length stripe) row column (length bytes))) 0
-    && (eqb (length new) (length stripe) && (not (unwritten s (cellNumber s row column) stripe bytes new) && eqb n (depending s (cellNumber s row column))))
+    && (eqb (length new) (length stripe) && (not (unwritten s (cellAt s row column) stripe bytes new) && eqb n (depending s (cellAt s row column))))
 claimed s stripe (undetermined lost) = stops (outcome s (named s lost))
 claimed s stripe (determined lost) = not (stops (outcome s (named s lost)))
 claimed s stripe (found finding) = finds s stripe finding
 claimed s stripe (planned k taken reads) =
     eqb (refusal (planFaults s k)) 0
-    && (ltb taken (2 ^ rows s) && (not (any (rows s) (λ i. xor (bit i taken) (byRule s k i))) && eqb reads (cellsRead s k taken)))
+    && (ltb taken (2 ^ rows s) && (not (any (rows s) (λ i. xor (bit i taken) (byRule s (columnOf s k) i))) && eqb reads (cellsRead s (columnOf s k) taken)))
 claimed s stripe (runRefused k plan number) = eqb (refusal (runFaults s (length stripe) (rows s * s .cell) k plan 0)) number
 
 module _ (s : Shape) (stripe : List ℕ) (row column : ℕ) (bytes new : List ℕ) (n : ℕ) (h : claimed s stripe (written row column bytes new n) ≡ true) where
   c : ℕ
-  c = cellNumber s row column
+  c = cellAt s row column
 
   tests : (eqb (refusal (writeFaults s (length stripe) row column (length bytes))) 0 && (eqb (length new) (length stripe) && (not (unwritten s c stripe bytes new) && eqb n (depending s c)))) ≡ true
   unfolding claimed c
@@ -92,12 +95,12 @@ module _ (s : Shape) (stripe : List ℕ) (row column : ℕ) (bytes new : List �
   last : (not (unwritten s c stripe bytes new) && eqb n (depending s c)) ≡ true
   last = and-right (eqb (length new) (length stripe)) (not (unwritten s c stripe bytes new) && eqb n (depending s c)) later
 
-  right : WriteRight s (length stripe) row column (length bytes)
-  right = write-accepted s (length stripe) row column (length bytes) (eqb-true _ 0 (and-left (eqb (refusal (writeFaults s (length stripe) row column (length bytes))) 0) (eqb (length new) (length stripe) && (not (unwritten s c stripe bytes new) && eqb n (depending s c))) tests))
+  right : WriteRight s (length stripe) row (columnOf s column) (length bytes)
+  right = write-accepted s (length stripe) row column (length bytes) (eqb-true _ 0 (and-left (eqb (refusal (writeFaults s (length stripe) row column (length bytes))) 0) (eqb (length new) (length stripe) && (not (unwritten s c stripe bytes new) && eqb n (depending s c))) tests)) .1
 
   inside : c < cells s
   unfolding c
-  inside = cell-inside s (right .formed) row column (right .cell .low) (right .cell .right)
+  inside = cell-inside s (right .formed) row (columnOf s column) (right .cell .low) (right .cell .right)
 
   plain : isParity s c ≡ false
   unfolding c
@@ -123,7 +126,7 @@ module _ (s : Shape) (stripe : List ℕ) (row column : ℕ) (bytes new : List �
 
 -- no equation fails: the stripe is encoded
 is-clean : (s : Shape) (stripe : List ℕ) → not (any (equations s) (fails s stripe)) ≡ true → Encoded s stripe
-is-clean s stripe h = none-fails s stripe (any-none (equations s) (fails s stripe) (not-true (any (equations s) (fails s stripe)) h))
+is-clean s stripe h = record { holds = λ q l. not-failing s stripe q (any-none (equations s) (fails s stripe) (not-true (any (equations s) (fails s stripe)) h) q l) }
 
 -- some equation fails: the stripe is not encoded
 some-fails : (s : Shape) (stripe : List ℕ) → any (equations s) (fails s stripe) ≡ true → Encoded s stripe → ⊥
@@ -144,12 +147,12 @@ not-wide stripe h i =
 module _ (s : Shape) (w : WellFormed s) (stripe : List ℕ) where
   is-replaceable : wide stripe ≡ false → (c : ℕ) → c < columns s → replaces s stripe c ≡ true → Replaceable s stripe c
   unfolding replaces
-  is-replaceable bytes c l h = let new = fits-restores s w (inColumns s c c) stripe (not-wide stripe bytes) h in record { inside = l; replaced = new .0; restores = new .1 }
+  is-replaceable bytes c l h = let new = fits-restores s w (callersColumns s c c) stripe (not-wide stripe bytes) h in record { inside = l; replaced = new .0; restores = new .1 }
 
   none-replaceable : any (columns s) (replaces s stripe) ≡ false → (c : ℕ) → Replaceable s stripe c → ⊥
   unfolding replaces
   none-replaceable h c r =
-      unfit-none s w (inColumns s c c) stripe (columns-determined s w c c (r .inside) (r .inside)) (any-none (columns s) (replaces s stripe) h c (r .inside)) (r .replaced) (r .restores)
+      unfit-none s w (callersColumns s c c) stripe (columns-determined s w (columnOf s c) (columnOf s c) (column-there s c (r .inside)) (column-there s c (r .inside))) (any-none (columns s) (replaces s stripe) h c (r .inside)) (r .replaced) (r .restores)
 
   is-found : (answer : BadColumn) → finds s stripe answer ≡ true → Finding s stripe answer
   unfolding finds
@@ -191,17 +194,17 @@ is-planned s stripe k taken reads h = record {
     says = refl;
     rule = record {
       low = ltb-true taken (2 ^ rows s) (and-left (ltb taken (2 ^ rows s)) last (and-right (eqb (refusal (planFaults s k)) 0) later h));
-      rule = λ i l. not-xor (bit i taken) (byRule s k i) (any-none (rows s) (λ j. xor (bit j taken) (byRule s k j)) (not-true differ (and-left (not differ) (eqb reads (cellsRead s k taken)) ends)) i l);
+      rule = λ i l. not-xor (bit i taken) (byRule s (columnOf s k) i) (any-none (rows s) (λ j. xor (bit j taken) (byRule s (columnOf s k) j)) (not-true differ (and-left (not differ) (eqb reads (cellsRead s (columnOf s k) taken)) ends)) i l);
     };
-    reads = eqb-true reads (cellsRead s k taken) (and-right (not differ) (eqb reads (cellsRead s k taken)) ends);
+    reads = eqb-true reads (cellsRead s (columnOf s k) taken) (and-right (not differ) (eqb reads (cellsRead s (columnOf s k) taken)) ends);
   };
 }
   where
     differ : Bool
-    differ = any (rows s) (λ i. xor (bit i taken) (byRule s k i))
+    differ = any (rows s) (λ i. xor (bit i taken) (byRule s (columnOf s k) i))
 
     last : Bool
-    last = not differ && eqb reads (cellsRead s k taken)
+    last = not differ && eqb reads (cellsRead s (columnOf s k) taken)
 
     later : Bool
     later = ltb taken (2 ^ rows s) && last
@@ -244,5 +247,5 @@ all-hold (e ∷ rows′) h =
 
 -- the theorem over the table
 pub examples-hold : AllHold table
-unfolding table passes claimed unwritten differing depending settled isParity writeFaults refusal firstOf order applies stripeFaults shapeFaults listed rows columns equations cells cellNumber stripeLength equation parityCell sumsCell byteAt sumOver fails brokenEquations any count xors _⊕_ named run lowest holds xor finds replaces wide inColumns syndrome bit diagonal chosen readsCell cellsRead byRule isAccepted planFaults spareFaults runFaults
+unfolding table passes claimed unwritten differing depending settled isParity writeFaults refusal firstOf order applies stripeFaults shapeFaults listed rows columns equations cells cellNumber stripeLength columnOf liesAt cellOf callersCell place equation parityCell sumsCell byteAt sumOver fails brokenEquations any count xors _⊕_ named run lowest holds xor finds replaces wide inColumns syndrome bit diagonal chosen readsCell cellsRead byRule isAccepted planFaults spareFaults runFaults
 examples-hold = all-hold table refl

@@ -8,9 +8,10 @@ use Rattle.stripe.specs.Write.{Writes}
 use Rattle.stripe.proofs.OneAnswer.{broken-one, write-one}
 use Rattle.bad.specs.Bad.{Finds}
 use Rattle.bad.proofs.OneAnswer.{bad-one}
-use Rattle.spare.specs.Run.{Plans, RunsByPlan}
+use Rattle.plan.specs.Plans.{Plans}
+use Rattle.spare.specs.Run.{RunsByPlan}
 use Rattle.spare.specs.Show.{Shown}
-use Rattle.spare.proofs.Planning.{plan-one}
+use Rattle.plan.proofs.Planning.{plan-one}
 use Rattle.spare.proofs.SameReads.{run-one}
 use Rattle.spare.proofs.ShowFacts.{shown-one}
 use Rattle.zijraduf.specs.declared.Count.{Count}

@@ -5,6 +5,7 @@ use Prim.Native.Nat.{ℕ, _*_}
 use lib.ListN.{length, replicate}
 use Rattle.codes.specs.declared.Shape.{Shape}
 use Rattle.codes.specs.Shape.{rows, cellNumber, stripeLength, WellFormed}
+use Rattle.codes.specs.Geometry.{cellAt}
 use Rattle.codes.specs.Encoded.{Encoded, brokenEquations}
 use Rattle.codes.specs.Refusals.{refusal}
 use Rattle.stripe.specs.Write.{Written, Depending}
@@ -12,9 +13,9 @@ use Rattle.bad.specs.declared.BadColumn.{BadColumn}
 use Rattle.bad.specs.declared.BadColumn.the-variants.{Column, Unexplained}
 use Rattle.decide.specs.Survivors.{Undetermined, named}
 use Rattle.bad.specs.Bad.{Finds}
-use Rattle.spare.specs.declared.PlanAnswer.the-variants.{Plan}
+use Rattle.plan.specs.declared.PlanAnswer.the-variants.{Plan}
 use Rattle.spare.specs.Refusals.{runFaults}
-use Rattle.spare.specs.Run.{Plans}
+use Rattle.plan.specs.Plans.{Plans}
 
 -- what a row claims of a stripe: that it is encoded; that so many equations are broken; that a small write to a row and a column
 -- of some bytes leaves another stripe, and that so many parity cells depend on the position
@@ -79,7 +80,7 @@ table =
 abbrev pub Claims : Shape → List ℕ → Claim → Type 0
 Claims s stripe encoded = Encoded s stripe
 Claims s stripe (broken n) = brokenEquations s stripe ≡ n
-Claims s stripe (written row column bytes new n) = Written s (cellNumber s row column) stripe bytes new × Depending s (cellNumber s row column) n
+Claims s stripe (written row column bytes new n) = Written s (cellAt s row column) stripe bytes new × Depending s (cellAt s row column) n
 Claims s stripe (undetermined lost) = Undetermined s (named s lost)
 Claims s stripe (determined lost) = Undetermined s (named s lost) → ⊥
 Claims s stripe (found finding) = Finds s stripe finding

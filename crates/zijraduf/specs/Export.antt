@@ -5,8 +5,8 @@ use Rattle.codes.specs.declared.Counted.{Counted}
 use Rattle.codes.specs.declared.Counted.the-variants.{Count as Number, Refused as CountRefused}
 use Rattle.bad.specs.declared.BadColumn.{BadColumn}
 use Rattle.bad.specs.declared.BadColumn.the-variants.{Clean, Column, Unexplained, Refused}
-use Rattle.spare.specs.declared.PlanAnswer.{PlanAnswer}
-use Rattle.spare.specs.declared.PlanAnswer.the-variants.{Plan, Refused as PlanRefused}
+use Rattle.plan.specs.declared.PlanAnswer.{PlanAnswer}
+use Rattle.plan.specs.declared.PlanAnswer.the-variants.{Plan, Refused as PlanRefused}
 use Rattle.spare.specs.declared.ShownAt.{ShownAt}
 use Rattle.spare.specs.declared.ShownAt.the-variants.{Stripe, Spare, Refused as ShowRefused}
 use Rattle.zijraduf.specs.declared.Count.{Count}

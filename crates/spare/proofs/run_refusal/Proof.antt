@@ -1,13 +1,16 @@
 -- `spare::run_refusal` meets its contract. Each return gives the first refusal in order, by the tests before it.
-use mathlib.Core.Path.{_≡_, sym, ap, _∙_}
+use mathlib.Core.Path.{_≡_, sym, ap, _∙_, subst}
 use mathlib.Core.List.{[], _∷_}
 use mathlib.Core.Bool.{not}
 use Prim.Native.Nat.{ℕ}
 use native.Mathlib.Omega.{arith}
 use borrow.Author.Tests.{le-leb, lt-leb}
+use Rattle.codes.specs.Geometry.{columnOf}
 use Rattle.codes.specs.Refusals.{fault, outside, refusal}
 use Rattle.codes.proofs.Order.{Gives, hit, miss, right, beyond, inside}
-use Rattle.spare.specs.Plan.{isAccepted}
+use Rattle.plan.specs.Plan.{isAccepted}
+use Rattle.plan.specs.Right.{RdpColumn}
+use Rattle.plan.proofs.Column.{lying}
 use Rattle.spare.specs.Refusals.{spareFaults, runFaults}
 use Rattle.spare.proofs.Refused.{spare-accepted, buffers-right, run-after}
 use borrow.Author.Needs.{needs}
@@ -34,7 +37,7 @@ returns-2 c =
 
 -- past the second test the column is inside, and the tests that are left decide
 left-tests : {r : ℕ} (c : tie.Else2) → let a = c .before .before .before .before .args in
-    Gives (outside (a .first) (a .shape .p) ∷ fault 9 (not (isAccepted (a .shape) (a .k) (a .plan))) ∷ []) r
+    Gives (outside (a .first) (a .shape .p) ∷ fault 9 (not (isAccepted (a .shape) (columnOf (a .shape) (a .k)) (a .plan))) ∷ []) r
     → r ≡ refusal (runFaults (a .shape) (a .bytes) (a .spare) (a .k) (a .plan) (a .first))
 left-tests c g =
     let a = c .before .before .before .before .args in
@@ -43,14 +46,31 @@ left-tests c g =
 returns-3 : tie.Need-returns-3
 returns-3 c = left-tests (c .before .before) (hit (le-leb _ _ (c .if3 .taken)))
 
+-- past the third the place is one of the stripe's
+asked : (c : tie.Else3) → let a = c .before .before .before .before .before .before .args in RdpColumn (a .shape) (a .k)
+asked c =
+    let a = c .before .before .before .before .before .before .args in
+    buffers-right (a .shape) (a .bytes) (a .spare) (a .k) (right-of (c .before .before .before .before)) (omega (arith, c .before .before .before .column-count .ensures, c .before .before .if2 .left)) .of
+
+column-of-requires : tie.Need-column-of-requires
+column-of-requires c κs = (asked c .formed, asked c .column)
+
 is-accepted-requires : tie.Need-is-accepted-requires
-is-accepted-requires c κs = let a = c .before .before .before .before .before .before .args in buffers-right (a .shape) (a .bytes) (a .spare) (a .k) (right-of (c .before .before .before .before)) (omega (arith, c .before .before .before .column-count .ensures, c .before .before .if2 .left)) .of
+is-accepted-requires c κs =
+    subst (RdpColumn (c .before .before .before .before .before .before .before .args .shape)) (sym (c .column-of .ensures)) (lying _ _ (asked (c .before)))
+
+-- whether the plan is accepted for the column that lies there
+answer : (c : tie.After-is-accepted) → let a = c .before .before .before .before .before .before .before .before .args in
+    c .is-accepted .result ≡ isAccepted (a .shape) (columnOf (a .shape) (a .k)) (a .plan)
+answer c =
+    let a = c .before .before .before .before .before .before .before .before .args in
+    c .is-accepted .ensures ∙ ap (λ (j : ℕ). isAccepted (a .shape) j (a .plan)) (c .before .column-of .ensures)
 
 returns-4 : tie.Need-returns-4
-returns-4 c = left-tests (c .before .before .before .before) (miss (lt-leb _ _ (c .before .before .if3 .left)) (hit (ap not (sym (c .before .is-accepted .ensures)) ∙ c .if4 .taken)))
+returns-4 c = left-tests (c .before .before .before .before .before) (miss (lt-leb _ _ (c .before .before .before .if3 .left)) (hit (ap not (sym (answer (c .before))) ∙ c .if4 .taken)))
 
 returns-5 : tie.Need-returns-5
-returns-5 c = left-tests (c .before .before .before .before) (miss (lt-leb _ _ (c .before .before .if3 .left)) (miss (ap not (sym (c .before .is-accepted .ensures)) ∙ c .if4 .left) right))
+returns-5 c = left-tests (c .before .before .before .before .before) (miss (lt-leb _ _ (c .before .before .before .if3 .left)) (miss (ap not (sym (answer (c .before))) ∙ c .if4 .left) right))
 
 pub run-refusal-spec : {M : Type 1} → statement M
 run-refusal-spec =
@@ -61,6 +81,7 @@ run-refusal-spec =
     column-count-requires
     returns-2
     returns-3
+    column-of-requires
     is-accepted-requires
     returns-4
     returns-5)

@@ -1,6 +1,7 @@
 -- `spare::shown_at` meets its contract. The refusal comes first; a cell of another column lies in the stripe, and one of column k in the spare.
 use mathlib.Core.Path.{_≡_, sym, _∙_}
 use native.Mathlib.Omega.{arith}
+use Rattle.codes.proofs.Geometry.{column-there}
 use Rattle.codes.specs.Refusals.{refusal}
 use Rattle.spare.specs.Refusals.{showFaults}
 use Rattle.spare.proofs.Refused.{ShowRight, show-accepted}
@@ -23,19 +24,33 @@ none-of c = sym (c .before .show-refusal .ensures) ∙ c .if1 .left
 right-of : (c : tie.Else1) → let a = c .before .before .args in ShowRight (a .shape) (a .bytes) (a .spare) (a .k) (a .done) (a .row) (a .column)
 right-of c = let a = c .before .before .args in show-accepted (a .shape) (a .bytes) (a .spare) (a .k) (a .done) (a .row) (a .column) (none-of c)
 
-mul-t10 : tie.Need-mul-t10
-mul-t10 c = let r = right-of (c .before .before) in omega (arith, row-small (c .before .before .before .before .args .shape) (r .buffers .of .formed) (c .before .before .before .before .args .row) (r .low))
+mul-at : tie.Need-mul-at
+mul-at c = let r = right-of (c .before .before) in omega (arith, row-small (c .before .before .before .before .args .shape) (r .buffers .of .formed) (c .before .before .before .before .args .row) (r .low))
 
 returns-2 : tie.Need-returns-2
 returns-2 c = let a = c .before .before .before .before .args in shown-spare (a .shape) (a .bytes) (a .spare) (a .k) (a .done) (a .row) (a .column) (none-of (c .before .before)) (c .before .if2 .taken)
 
+column-of-requires : tie.Need-column-of-requires
+column-of-requires c κs = let r = right-of (c .before) in (r .buffers .of .formed, r .right)
+
 cell-place-requires : tie.Need-cell-place-requires
-cell-place-requires c κs = let r = right-of (c .before) in (r .buffers .of .formed, r .low, r .right)
+cell-place-requires c κs =
+    let r = right-of (c .before .before) in
+    (r .buffers .of .formed, r .low, omega (arith, c .column-of .ensures, column-there (c .before .before .before .before .args .shape) _ (r .right)))
 
 returns-3 : tie.Need-returns-3
-returns-3 c = let a = c .before .before .before .before .args in shown-stripe (a .shape) (a .bytes) (a .spare) (a .k) (a .done) (a .row) (a .column) (none-of (c .before .before)) _ (c .cell-place .ensures) (c .before .if2 .left)
+returns-3 c =
+    let a = c .before .before .before .before .before .args in
+    shown-stripe (a .shape) (a .bytes) (a .spare) (a .k) (a .done) (a .row) (a .column) (none-of (c .before .before .before)) _ _ (c .before .column-of .ensures) (c .cell-place .ensures) (c .before .before .if2 .left)
 
 pub shown-at-spec : {M : Type 1} → statement M
 shown-at-spec =
     tie.close
-    (tie.spec show-refusal-requires returns mul-t10 returns-2 cell-place-requires returns-3)
+    (tie.spec
+    show-refusal-requires
+    returns
+    mul-at
+    returns-2
+    column-of-requires
+    cell-place-requires
+    returns-3)

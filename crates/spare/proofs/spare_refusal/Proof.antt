@@ -7,9 +7,10 @@ use borrow.Author.Tests.{eq-eqb, ne-eqb}
 use Rattle.codes.specs.Shape.{stripeLength, WellFormed}
 use Rattle.codes.specs.Refusals.{refusal}
 use Rattle.codes.proofs.Order.{hit, miss, right}
-use Rattle.spare.specs.Refusals.{rdpFaults}
+use Rattle.plan.specs.Refusals.{rdpFaults}
 use Rattle.spare.proofs.Column.{spare-length}
-use Rattle.spare.proofs.Refused.{rdp-accepted, spare-after}
+use Rattle.plan.proofs.Refused.{rdp-accepted}
+use Rattle.spare.proofs.Refused.{spare-after}
 use borrow.Author.Needs.{needs}
 use Rattle.spare.proofs.spare_refusal.Statement.{statement}
 use Rattle.spare.proofs.spare_refusal.Tie as tie

@@ -1,5 +1,5 @@
 -- `zijraduf::zijraduf_plan` meets its contract. Each case of the answer becomes its three numbers.
-use Rattle.spare.specs.declared.PlanAnswer.the-variants.{Plan, Refused}
+use Rattle.plan.specs.declared.PlanAnswer.the-variants.{Plan, Refused}
 use Rattle.zijraduf.proofs.Export.{in-numbers}
 use borrow.Author.Needs.{needs}
 use Rattle.zijraduf.proofs.zijraduf_plan.Statement.{statement}

@@ -16,13 +16,13 @@ use Rattle.codes.specs.declared.Shape.{Shape}
 use Rattle.codes.specs.Shape.{rows, columns, cells, cellNumber}
 use Rattle.codes.proofs.Shapes.{low}
 use Rattle.codes.proofs.Lines.{rdp-columns}
-use Rattle.spare.specs.Plan.{diagonal, readsCell, cellsRead, isAccepted}
-use Rattle.spare.specs.Right.{RdpColumn}
-use Rattle.spare.proofs.Counting.{sumOf, sum-same, sum-constant, sum-more, sum-choice, count-grid}
-use Rattle.spare.proofs.Column.{last-row}
-use Rattle.spare.proofs.Diagonals.{home, home-back, missing-home, diagonal-last, diagonal-below}
-use Rattle.spare.proofs.Accepted.{plan-low, missing-left, all-taken, every-row}
-use Rattle.spare.proofs.Cells.{isRead, reads-is}
+use Rattle.plan.specs.Plan.{diagonal, readsCell, cellsRead, isAccepted}
+use Rattle.plan.specs.Right.{RdpColumn}
+use Rattle.plan.proofs.Counting.{sumOf, sum-same, sum-constant, sum-more, sum-choice, count-grid}
+use Rattle.plan.proofs.Column.{last-row}
+use Rattle.plan.proofs.Diagonals.{home, home-back, missing-home, diagonal-last, diagonal-below}
+use Rattle.plan.proofs.Accepted.{plan-low, missing-left, all-taken, every-row}
+use Rattle.plan.proofs.Cells.{isRead, reads-is}
 
 -- the square less what is not read
 square : (x y : ℕ) → x * (x - 1) + y * (x + y) + x ≡ (x + y) * (x + y) - x * (x + y - x)

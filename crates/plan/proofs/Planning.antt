@@ -1,36 +1,39 @@
 -- What plan answers meets its contract, and any two answers that the contract allows are equal.
-use mathlib.Core.Path.{_≡_, refl, sym, ap, _∙_}
+use mathlib.Core.Path.{_≡_, refl, sym, ap, _∙_, subst}
 use mathlib.Core.Logic.{_≢_}
 use Prim.Native.Nat.{ℕ, _-_, _*_}
 use lib.Count.{ones}
 use Rattle.bits.proofs.Bits.{same-bits}
 use Rattle.codes.specs.declared.Shape.{Shape}
 use Rattle.codes.specs.Shape.{rows}
+use Rattle.codes.specs.Geometry.{columnOf}
 use Rattle.codes.specs.Refusals.{refusal}
-use Rattle.spare.specs.declared.ReadPlan.{ReadPlan}
-use Rattle.spare.specs.declared.PlanAnswer.{PlanAnswer}
-use Rattle.spare.specs.declared.PlanAnswer.the-variants.{Plan, Refused}
-use Rattle.spare.specs.Plan.{cellsRead, ByRule}
-use Rattle.spare.specs.Refusals.{planFaults}
-use Rattle.spare.specs.Run.{Plans}
-use Rattle.spare.proofs.Refused.{plan-accepted}
-use Rattle.spare.proofs.PlanReads.{plan-reads}
-use Rattle.spare.proofs.PlanFacts.{rule-accepted}
+use Rattle.plan.specs.declared.ReadPlan.{ReadPlan}
+use Rattle.plan.specs.declared.PlanAnswer.{PlanAnswer}
+use Rattle.plan.specs.declared.PlanAnswer.the-variants.{Plan, Refused}
+use Rattle.plan.specs.Plan.{cellsRead, ByRule}
+use Rattle.plan.specs.Refusals.{planFaults}
+use Rattle.plan.specs.Plans.{Plans}
+use Rattle.plan.proofs.Column.{lying}
+use Rattle.plan.proofs.Refused.{plan-accepted}
+use Rattle.plan.proofs.PlanReads.{plan-reads}
+use Rattle.plan.proofs.PlanFacts.{rule-accepted}
 
 pub plan-refused : (s : Shape) (k n : ℕ) → n ≡ refusal (planFaults s k) → n ≢ 0 → Plans s k (Refused n)
 plan-refused s k n e some = record { number = e; given = λ z. absurd (some z) }
 
-pub plan-given : (s : Shape) (k taken reads : ℕ) → refusal (planFaults s k) ≡ 0 → ByRule s k taken
+pub plan-given : (s : Shape) (k j taken reads : ℕ) → refusal (planFaults s k) ≡ 0 → j ≡ columnOf s k → ByRule s j taken
     → reads ≡ (s .p - 1) * (s .p - 1) - ones taken * (s .p - 1 - ones taken) → Plans s k (Plan (record { rows = taken; reads = reads }))
-plan-given s k taken reads none rule e =
-    let of = plan-accepted s k none in
+plan-given s k j taken reads none lies ruled e =
+    let rule : ByRule s (columnOf s k) taken = subst (λ (x : ℕ). ByRule s x taken) lies ruled in
+    let of = lying s k (plan-accepted s k none) in
     record {
       number = sym none;
       given = λ z. record {
         plan = record { rows = taken; reads = reads };
         says = refl;
         rule = rule;
-        reads = e ∙ sym (plan-reads s k taken of (rule-accepted s k taken of rule));
+        reads = e ∙ sym (plan-reads s (columnOf s k) taken of (rule-accepted s (columnOf s k) taken of rule));
       };
     }
 
@@ -50,8 +53,8 @@ plan-one s k (Refused m) (Refused n) ha hb = ap Refused (ha .number ∙ sym (hb 
 plan-one s k (Plan x) b ha hb =
     let ga = ha .given refl in
     let gb = hb .given (hb .number ∙ sym (ha .number)) in
-    ga .says ∙ ap Plan (same-plan s k (ga .plan) (gb .plan) (ga .rule) (gb .rule) (ga .reads) (gb .reads)) ∙ sym (gb .says)
+    ga .says ∙ ap Plan (same-plan s (columnOf s k) (ga .plan) (gb .plan) (ga .rule) (gb .rule) (ga .reads) (gb .reads)) ∙ sym (gb .says)
 plan-one s k (Refused m) (Plan y) ha hb =
     let ga = ha .given (ha .number ∙ sym (hb .number)) in
     let gb = hb .given refl in
-    ga .says ∙ ap Plan (same-plan s k (ga .plan) (gb .plan) (ga .rule) (gb .rule) (ga .reads) (gb .reads)) ∙ sym (gb .says)
+    ga .says ∙ ap Plan (same-plan s (columnOf s k) (ga .plan) (gb .plan) (ga .rule) (gb .rule) (ga .reads) (gb .reads)) ∙ sym (gb .says)

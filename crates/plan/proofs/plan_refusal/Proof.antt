@@ -1,12 +1,12 @@
--- `spare::plan_refusal` meets its contract. What is wrong with the shape comes first, then the column.
+-- `plan::plan_refusal` meets its contract. What is wrong with the shape comes first, then the column.
 use mathlib.Core.Path.{_≡_, sym, _∙_}
 use Rattle.codes.specs.Refusals.{refusal}
 use Rattle.codes.proofs.Order.{hit, miss, right, beyond, inside}
-use Rattle.spare.specs.Refusals.{rdpFaults}
-use Rattle.spare.proofs.Refused.{rdp-accepted, plan-after}
+use Rattle.plan.specs.Refusals.{rdpFaults}
+use Rattle.plan.proofs.Refused.{rdp-accepted, plan-after}
 use borrow.Author.Needs.{needs}
-use Rattle.spare.proofs.plan_refusal.Statement.{statement}
-use Rattle.spare.proofs.plan_refusal.Tie as tie
+use Rattle.plan.proofs.plan_refusal.Statement.{statement}
+use Rattle.plan.proofs.plan_refusal.Tie as tie
 
 rdp-refusal-requires : tie.Need-rdp-refusal-requires
 rdp-refusal-requires c κs = search needs

@@ -1,13 +1,13 @@
 -- The diagonals of an RDP stripe: that of a row of column k, and the row of column k on a diagonal.
-use mathlib.Core.Path.{_≡_, refl, ap, _∙_}
+use mathlib.Core.Path.{_≡_, refl, sym, ap, _∙_}
 use Prim.Native.Nat.{ℕ, _+_, _-_, _%_, _≤_, _<_}
-use native.Mathlib.Nat.{mod-lt, mod-eq-of-lt, add-mod-right}
+use native.Mathlib.Nat.{mod-lt, mod-eq-of-lt, add-mod-right, add-comm}
 use native.Mathlib.Omega.{arith}
 use borrow.Author.Tests.{eq-eqb, ne-eqb}
 use Rattle.xor.proofs.Cases.{by-equal}
 use Rattle.codes.specs.declared.Shape.{Shape}
 use Rattle.codes.proofs.Residues.{there-and-back}
-use Rattle.spare.specs.Plan.{diagonal}
+use Rattle.plan.specs.Plan.{diagonal}
 
 module _ (s : Shape) where
   pub diagonal-last : (j i : ℕ) → j ≡ s .p → diagonal s j i ≡ i
@@ -17,6 +17,10 @@ module _ (s : Shape) where
   pub diagonal-below : (j i : ℕ) → j < s .p → diagonal s j i ≡ (i + j) % s .p
   unfolding diagonal
   diagonal-below j i l = rw (ne-eqb j (s .p) (λ e. omega arith)) refl
+
+  -- row i of column j is on the same diagonal as row j of column i
+  pub diagonal-turned : (j i : ℕ) → j < s .p → i < s .p → diagonal s j i ≡ diagonal s i j
+  diagonal-turned j i lj li = diagonal-below j i lj ∙ ap (λ (n : ℕ). n % s .p) (add-comm i j) ∙ sym (diagonal-below i j li)
 
   pub diagonal-low : (j i : ℕ) → 0 < s .p → i < s .p → diagonal s j i < s .p
   unfolding diagonal

@@ -1,11 +1,11 @@
--- `spare::rule_rows` meets its contract. Each mask is the plan by the rule.
+-- `plan::rule_rows` meets its contract. Each mask is the plan by the rule.
 use Prim.Native.Nat.{_-_}
 use native.Mathlib.Omega.{arith}
 use Rattle.codes.proofs.Shapes.{low, high}
-use Rattle.spare.proofs.Rule.{some-power, rule-all, rule-low, rule-out}
+use Rattle.plan.proofs.Rule.{some-power, rule-all, rule-low, rule-out}
 use borrow.Author.Needs.{needs}
-use Rattle.spare.proofs.rule_rows.Statement.{statement}
-use Rattle.spare.proofs.rule_rows.Tie as tie
+use Rattle.plan.proofs.rule_rows.Statement.{statement}
+use Rattle.plan.proofs.rule_rows.Tie as tie
 
 sub-n : tie.Need-sub-n
 sub-n c = omega (arith, low (c .before .args .shape) (c .before .pre .formed))

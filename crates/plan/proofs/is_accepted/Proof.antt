@@ -1,12 +1,12 @@
--- `spare::is_accepted` meets its contract. The plan's bound is 2 to the number of rows, and one bit is tested by its mask.
+-- `plan::is_accepted` meets its contract. The plan's bound is 2 to the number of rows, and one bit is tested by its mask.
 use Prim.Native.Nat.{_<_}
 use native.Mathlib.Omega.{arith}
 use Rattle.codes.proofs.Shapes.{low, high}
-use Rattle.spare.proofs.Column.{last-column}
-use Rattle.spare.proofs.Accepted.{too-high, every-diagonal, first-column, one-row}
+use Rattle.plan.proofs.Column.{last-column}
+use Rattle.plan.proofs.Accepted.{too-high, every-diagonal, first-column, one-row}
 use borrow.Author.Needs.{needs}
-use Rattle.spare.proofs.is_accepted.Statement.{statement}
-use Rattle.spare.proofs.is_accepted.Tie as tie
+use Rattle.plan.proofs.is_accepted.Statement.{statement}
+use Rattle.plan.proofs.is_accepted.Tie as tie
 
 sub-last : tie.Need-sub-last
 sub-last c = omega (arith, low (c .before .args .shape) (c .before .pre .formed))

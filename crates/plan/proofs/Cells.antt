@@ -17,11 +17,11 @@ use Rattle.codes.specs.Holders.{holds}
 use Rattle.codes.proofs.Shapes.{low}
 use Rattle.codes.proofs.Lines.{rdp-rows, rdp-columns, rdp-row-is}
 use Rattle.codes.proofs.Positions.{same-row, same-column, parity-of, sums-of, rdp-second-is}
-use Rattle.spare.specs.Plan.{diagonal, chosen, readsCell, isAccepted}
-use Rattle.spare.specs.Right.{RdpColumn}
-use Rattle.spare.proofs.Column.{last-row, last-column}
-use Rattle.spare.proofs.Diagonals.{home, home-back, missing-home, diagonal-last, diagonal-low, diagonal-back}
-use Rattle.spare.proofs.Accepted.{plan-low, missing-left, every-row}
+use Rattle.plan.specs.Plan.{diagonal, chosen, readsCell, isAccepted}
+use Rattle.plan.specs.Right.{RdpColumn}
+use Rattle.plan.proofs.Column.{last-row, last-column}
+use Rattle.plan.proofs.Diagonals.{home, home-back, missing-home, diagonal-last, diagonal-low, diagonal-back}
+use Rattle.plan.proofs.Accepted.{plan-low, missing-left, every-row}
 
 -- ---- which cells an equation holds
 

@@ -14,9 +14,9 @@ use Rattle.bits.proofs.Masks.{and-power}
 use Rattle.codes.specs.declared.Shape.{Shape}
 use Rattle.codes.specs.Shape.{rows}
 use Rattle.codes.proofs.Shapes.{low}
-use Rattle.spare.specs.Plan.{isAccepted}
-use Rattle.spare.specs.Right.{RdpColumn}
-use Rattle.spare.proofs.Column.{last-row, last-column}
+use Rattle.plan.specs.Plan.{isAccepted}
+use Rattle.plan.specs.Right.{RdpColumn}
+use Rattle.plan.proofs.Column.{last-row, last-column}
 
 -- ---- the code's tests
 

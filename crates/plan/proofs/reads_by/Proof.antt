@@ -1,12 +1,12 @@
--- `spare::reads_by` meets its contract. A mask has no more ones than there are rows, so nothing wraps.
+-- `plan::reads_by` meets its contract. A mask has no more ones than there are rows, so nothing wraps.
 use Prim.Native.Nat.{_-_}
 use native.Mathlib.Nat.{mul-le-mul}
 use native.Mathlib.Omega.{arith}
 use lib.Count.{ones, ones-le}
 use Rattle.codes.proofs.Shapes.{low, high, small-product}
 use borrow.Author.Needs.{needs}
-use Rattle.spare.proofs.reads_by.Statement.{statement}
-use Rattle.spare.proofs.reads_by.Tie as tie
+use Rattle.plan.proofs.reads_by.Statement.{statement}
+use Rattle.plan.proofs.reads_by.Tie as tie
 
 sub-n : tie.Need-sub-n
 sub-n c = omega (arith, low (c .before .args .shape) (c .before .pre .0))

@@ -15,9 +15,9 @@ use Rattle.bits.proofs.Bits.{bit-ones, bit-power, bit-xor}
 use Rattle.codes.specs.declared.Shape.{Shape}
 use Rattle.codes.specs.Shape.{rows}
 use Rattle.codes.proofs.Shapes.{low}
-use Rattle.spare.specs.Plan.{byRule, ByRule}
-use Rattle.spare.specs.Right.{RdpColumn}
-use Rattle.spare.proofs.Column.{last-row, last-column}
+use Rattle.plan.specs.Plan.{byRule, ByRule}
+use Rattle.plan.specs.Right.{RdpColumn}
+use Rattle.plan.proofs.Column.{last-row, last-column}
 
 -- a power of two is not 0
 pub some-power : (m n : ℕ) → m ≡ 2 ^ n → 1 ≤ m

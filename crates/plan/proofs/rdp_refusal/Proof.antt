@@ -1,14 +1,14 @@
--- `spare::rdp_refusal` meets its contract. What is wrong with the code or the prime comes first, then another code, then the cell size.
+-- `plan::rdp_refusal` meets its contract. What is wrong with the code or the prime comes first, then another code, then the cell size.
 use mathlib.Core.Path.{_≡_, sym, ap, _∙_}
 use mathlib.Core.Bool.{not}
 use borrow.Author.Tests.{eq-eqb, ne-eqb}
 use Rattle.codes.specs.Refusals.{refusal, codeFaults}
 use Rattle.codes.proofs.Order.{hit, miss}
 use Rattle.codes.proofs.Refused.{size-gives}
-use Rattle.spare.proofs.Refused.{rdp-after}
+use Rattle.plan.proofs.Refused.{rdp-after}
 use borrow.Author.Needs.{needs}
-use Rattle.spare.proofs.rdp_refusal.Statement.{statement}
-use Rattle.spare.proofs.rdp_refusal.Tie as tie
+use Rattle.plan.proofs.rdp_refusal.Statement.{statement}
+use Rattle.plan.proofs.rdp_refusal.Tie as tie
 
 code-refusal-requires : tie.Need-code-refusal-requires
 code-refusal-requires c κs = search needs

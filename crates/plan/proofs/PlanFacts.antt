@@ -18,13 +18,13 @@ use Rattle.codes.specs.declared.Shape.{Shape}
 use Rattle.codes.specs.Shape.{rows, cells, cellNumber, WellFormed}
 use Rattle.codes.proofs.Shapes.{each-prime, low, rows-low}
 use Rattle.codes.proofs.Positions.{cell-is}
-use Rattle.spare.specs.Plan.{readsCell, cellsRead, byRule, ByRule, isAccepted}
-use Rattle.spare.specs.Right.{RdpColumn}
-use Rattle.spare.proofs.Column.{last-row, last-column}
-use Rattle.spare.proofs.Accepted.{plan-low}
-use Rattle.spare.proofs.Rule.{others-below}
-use Rattle.spare.proofs.Cells.{reads-is}
-use Rattle.spare.proofs.PlanReads.{all-rows, last-column-reads, plan-reads}
+use Rattle.plan.specs.Plan.{readsCell, cellsRead, byRule, ByRule, isAccepted}
+use Rattle.plan.specs.Right.{RdpColumn}
+use Rattle.plan.proofs.Column.{last-row, last-column}
+use Rattle.plan.proofs.Accepted.{plan-low}
+use Rattle.plan.proofs.Rule.{others-below}
+use Rattle.plan.proofs.Cells.{reads-is}
+use Rattle.plan.proofs.PlanReads.{all-rows, last-column-reads, plan-reads}
 
 -- the count of ones of a plan is the number of rows that it takes by diagonal
 pub ones-are-rows : (s : Shape) (plan : ℕ) → plan < 2 ^ rows s → ones plan ≡ count (rows s) (λ i. bit i plan)

@@ -1,0 +1,37 @@
+-- The refusals of plan, and of a shape that must be RDP's: which faults come after which, and what holds where there is none.
+use mathlib.Core.Path.{_≡_, refl}
+use mathlib.Core.List.{[], _∷_}
+use Prim.Native.Nat.{ℕ}
+use borrow.Author.Tests.{eqb-true, leb-false, not-false}
+use Rattle.codes.specs.declared.Shape.{Shape}
+use Rattle.codes.specs.Shape.{columns, WellFormed}
+use Rattle.codes.specs.Refusals.{outside, order, refusal, codeFaults, sizeFaults}
+use Rattle.codes.proofs.Order.{After, after}
+use Rattle.codes.proofs.Refused.{well-formed}
+use Rattle.plan.specs.Refusals.{notRdp, rdpFaults, planFaults}
+use Rattle.plan.specs.Right.{RdpColumn}
+
+-- ---- a shape that must be RDP's
+
+module _ (s : Shape) where
+  pub rdp-after : After (codeFaults s) (notRdp s ∷ sizeFaults s) (rdpFaults s)
+  unfolding order
+  rdp-after = after (codeFaults s) (notRdp s ∷ sizeFaults s) refl refl
+
+  -- a shape that is not refused is RDP's, and well formed
+  pub rdp-accepted : refusal (rdpFaults s) ≡ 0 → WellFormed s × (s .code ≡ 1)
+  rdp-accepted none = let n = rdp-after .none none in (well-formed s (n .0) (n .1 .1), eqb-true (s .code) 1 (not-false _ (n .1 .0)))
+
+-- ---- a plan
+
+module _ (s : Shape) (k : ℕ) where
+  pub plan-after : After (rdpFaults s) (outside k (columns s) ∷ []) (planFaults s k)
+  unfolding planFaults order
+  plan-after = after (rdpFaults s) _ refl refl
+
+  -- a plan that is not refused is for a place where a column of RDP lies
+  pub plan-accepted : refusal (planFaults s k) ≡ 0 → RdpColumn s k
+  plan-accepted none =
+      let n = plan-after .none none in
+      let formed = rdp-accepted s (n .0) in
+      record { formed = formed .0; rdp = formed .1; column = leb-false (columns s) k (n .1 .0) }

@@ -1,0 +1,4 @@
+pub mod Plan
+pub mod Right
+pub mod Refusals
+pub mod Plans
