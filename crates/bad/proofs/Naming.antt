@@ -49,27 +49,37 @@ module _ (s : Shape) (w : WellFormed s) (stripe : List ℕ) (at n : ℕ) where
   explains-one : (c : ℕ) → ExplainsIn s stripe at n c → (i : ℕ) → i < n → Explains s (bytesAt s stripe (at + i)) c
   explains-one c h i l = record { inside = h .inside; mended = h .mended i; solves = h .solves i l; agree = h .agree i l }
 
-  module _ (q i : ℕ) (lq : q < equations s) (li : i < n) (fails′ : total s q (bytesAt s stripe (at + i)) ≢ 0)
-      (totals : List ℕ) (of : TotalsOf s (bytesAt s stripe (at + i)) totals) (c : ℕ) (candidate : Candidate s totals c) where
+  -- what is known of the candidate c: it was sought at a byte in which an equation fails
+  pub record Sought (c : ℕ) : Type 0 where
+    pub q : ℕ
+    pub i : ℕ
+    pub there : q < equations s
+    pub inside : i < n
+    pub fails : total s q (bytesAt s stripe (at + i)) ≢ 0
+    pub totals : List ℕ
+    pub of : TotalsOf s (bytesAt s stripe (at + i)) totals
+    pub candidate : Candidate s totals c
+
+  module _ (c : ℕ) (h : Sought c) where
     not-clean : CleanIn s stripe at n → ⊥
-    not-clean h = fails′ (total-zero s q (bytesAt s stripe (at + i)) (h i li q lq))
+    not-clean clean = h .fails (total-zero s (h .q) (bytesAt s stripe (at + h .i)) (clean (h .i) (h .inside) (h .q) (h .there)))
 
     pub named-column : c < columns s → (d : ℕ) → d ≡ liesAt s c → ExplainsIn s stripe at n c → FindingIn s stripe at n (Column d)
-    named-column l d e h = (
+    named-column l d e x = (
       not-clean,
       subst (λ (k : ℕ). k < columns s) (sym e) (lies-there s c l),
-      subst (ExplainsIn s stripe at n) (sym (column-lies s c l) ∙ ap (columnOf s) (sym e)) h,
+      subst (ExplainsIn s stripe at n) (sym (column-lies s c l) ∙ ap (columnOf s) (sym e)) x,
     )
 
     pub none-named : c ≡ columns s → FindingIn s stripe at n Unexplained
-    none-named e = (not-clean, λ d h. candidate .none (bytesAt s stripe (at + i)) of (omega arith) d (explains-one d h i li))
+    none-named e = (not-clean, λ d x. h .candidate .none (bytesAt s stripe (at + h .i)) (h .of) (omega arith) d (explains-one d x (h .i) (h .inside)))
 
-    pub not-this : c ≢ columns s → c ≤ columns s → (ExplainsIn s stripe at n c → ⊥) → FindingIn s stripe at n Unexplained
-    not-this other most no′ = (
+    pub not-this : c < columns s → (ExplainsIn s stripe at n c → ⊥) → FindingIn s stripe at n Unexplained
+    not-this l no′ = (
       not-clean,
-      λ d h. by-equal c d (λ e. no′ (subst (ExplainsIn s stripe at n) (sym e) h))
-          (λ e. fails′ (total-zero s q (bytesAt s stripe (at + i))
-          (one-explains s w (bytesAt s stripe (at + i)) c d (candidate .found (bytesAt s stripe (at + i)) of (omega arith)) (explains-one d h i li) e q lq))),
+      λ d x. by-equal c d (λ e. no′ (subst (ExplainsIn s stripe at n) (sym e) x))
+          (λ e. h .fails (total-zero s (h .q) (bytesAt s stripe (at + h .i))
+          (one-explains s w (bytesAt s stripe (at + h .i)) c d (h .candidate .found (bytesAt s stripe (at + h .i)) (h .of) l) (explains-one d x (h .i) (h .inside)) e (h .q) (h .there)))),
     )
 
 -- ---- whether one column explains the bytes

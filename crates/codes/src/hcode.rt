@@ -56,10 +56,10 @@ pub fn holders(shape: Shape, row: usize, column: usize) -> u64
     ensures { λ r. ⌜ HeldBy shape (cellNumber shape row column) r ⌝ }
 {
     let p = shape.p;
-    let n = p - 1;
     if column == p {
         return crate::named(shape, row, row);
     }
+    let n = p - 1;
     if column == row + 1 {
         return crate::named(shape, n + row, n + row);
     }

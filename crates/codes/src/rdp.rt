@@ -44,7 +44,8 @@ pub fn is_parity(shape: Shape, row: usize, column: usize) -> bool
     requires { ⌜ WellFormed shape × (shape .code ≡ 1) × (row < rows shape) × (column < columns shape) ⌝ }
     ensures { λ r. ⌜ r ≡ isParity shape (cellNumber shape row column) ⌝ }
 {
-    shape.p - 1 <= column
+    let data = shape.p - 1;
+    data <= column
 }
 
 // The equations that hold a cell: its row and its diagonal; in the last column the diagonal whose parity cell it is.

@@ -70,12 +70,7 @@ fn list_lost(shape: Shape, map: [bool; codes::CELLS], listed: &mut [usize; bits:
 }
 
 // Fills in for each equation the set of the lost cells that it holds: bit k for lost cell number k.
-fn hold_lost(
-    shape: Shape,
-    listed: &[usize; bits::ROOM],
-    lost: usize,
-    rows: &mut [u64; bits::ROOM],
-)
+fn hold_lost(shape: Shape, listed: &[usize; bits::ROOM], lost: usize, rows: &mut [u64; bits::ROOM])
     requires { ⌜ WellFormed shape × (lost ≤ 64) × ((k : ℕ) → k < lost → getD (now listed) k 0 < cells shape) × (length (now listed) ≡ 64)
         × (length (now rows) ≡ 64) × ((q : ℕ) → getD (now rows) q 0 ≡ 0) ⌝ }
     ensures { λ _. ⌜ Rows shape lost (now (listed .entry)) (now (rows .exit)) ⌝ }

@@ -13,32 +13,32 @@ Inv-loop masks₀ members more rest₀ masks rest = AddedTo masks₀ members mor
 abbrev μ-loop : tie.MeasureT-loop
 μ-loop masks₀ members more rest₀ masks rest = rest
 
-loop-holds : tie.Need-loop-holds Inv-loop μ-loop
-loop-holds c = added-none _ _ _ (c .pre)
-
-lowest-bit-requires : tie.Need-lowest-bit-requires Inv-loop μ-loop
-lowest-bit-requires c κs = search needs
-
-cast-q : tie.Need-cast-q Inv-loop μ-loop
-cast-q c = search needs
-
-element-copy-out-totals : tie.Need-element-copy-out-totals Inv-loop μ-loop
-element-copy-out-totals c = search needs
+sub-rest : tie.Need-sub-rest Inv-loop μ-loop
+sub-rest c = search needs
 
 element-write-totals : tie.Need-element-write-totals Inv-loop μ-loop
 element-write-totals c = search needs
 
-sub-rest : tie.Need-sub-rest Inv-loop μ-loop
-sub-rest c = search needs
+element-copy-out-totals : tie.Need-element-copy-out-totals Inv-loop μ-loop
+element-copy-out-totals c = search needs
 
-loop-less : tie.Need-loop-less Inv-loop μ-loop
-loop-less c = omega (arith, and-le-r (c .before .before .before .loop .rest) (c .before .before .before .loop .rest - 1))
+cast-q : tie.Need-cast-q Inv-loop μ-loop
+cast-q c = search needs
+
+lowest-bit-requires : tie.Need-lowest-bit-requires Inv-loop μ-loop
+lowest-bit-requires c κs = search needs
+
+returns : tie.Need-returns Inv-loop μ-loop
+returns c = added-all _ _ _ _ _ (omega arith) (c .before .loop .inv)
 
 loop-again : tie.Need-loop-again Inv-loop μ-loop
 loop-again c = added-more _ _ _ _ _ _ (c .before .lowest-bit .ensures .0) (c .before .lowest-bit .ensures .1) (c .before .before .before .loop .inv)
 
-returns : tie.Need-returns Inv-loop μ-loop
-returns c = added-all _ _ _ _ _ (omega arith) (c .before .loop .inv)
+loop-less : tie.Need-loop-less Inv-loop μ-loop
+loop-less c = omega (arith, and-le-r (c .before .before .before .loop .rest) (c .before .before .before .loop .rest - 1))
+
+loop-holds : tie.Need-loop-holds Inv-loop μ-loop
+loop-holds c = added-none _ _ _ (c .pre)
 
 pub add-to-spec : {M : Type 1} → statement M
 add-to-spec =

@@ -10,7 +10,7 @@ use Rattle.bad.proofs.column_agrees.Statement.{statement}
 use Rattle.bad.proofs.column_agrees.Tie as tie
 
 mark-columns-requires : tie.Need-mark-columns-requires
-mark-columns-requires c κs = (c .before .pre .0 .formed, c .before .pre .1, c .before .pre .1)
+mark-columns-requires c κs = (c .before .pre .0 .formed, c .before .pre .1, omega (arith, c .before .pre .1))
 
 decide-requires : tie.Need-decide-requires
 decide-requires c κs = (c .before .before .before .before .before .pre .0 .formed, refl, refl, refl)

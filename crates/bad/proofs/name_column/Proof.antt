@@ -1,9 +1,9 @@
 -- `bad::name_column` meets its contract. The candidate is the only column that can explain the byte.
-use mathlib.Core.Path.{sym, _∙_}
+use mathlib.Core.Path.{_∙_}
 use Prim.Native.Nat.{_<_}
 use native.Mathlib.Omega.{arith}
 use Rattle.codes.specs.Shape.{columns}
-use Rattle.bad.proofs.Naming.{named-column, none-named, not-this}
+use Rattle.bad.proofs.Naming.{Sought, named-column, none-named, not-this}
 use borrow.Author.Needs.{needs}
 use Rattle.bad.proofs.name_column.Statement.{statement}
 use Rattle.bad.proofs.name_column.Tie as tie
@@ -27,13 +27,21 @@ candidate-requires c κs = c .before .before .before .pre .0 .formed
 column-count-requires : tie.Need-column-count-requires
 column-count-requires c κs = c .before .before .before .before .pre .0 .formed
 
+-- what is known once the candidate is found
+sought : (c : tie.After-candidate) → let a = c .before .before .before .before .args in Sought (a .shape) (c .before .before .before .before .pre .0 .formed) (a .stripe .now) (a .at) (a .n) (c .candidate .result)
+sought c = record {
+  q = c .before .before .before .before .args .q;
+  i = c .before .before .failing-byte .result;
+  there = c .before .before .before .before .pre .1;
+  inside = c .before .before .failing-byte .ensures .0;
+  fails = c .before .before .failing-byte .ensures .1;
+  totals = c .before .totals-at .result;
+  of = c .before .totals-at .ensures;
+  candidate = c .candidate .ensures;
+}
+
 returns : tie.Need-returns
-returns c =
-    let found = c .before .before .before .before in
-    let start = found .before .before in
-    let a = start .args in
-    none-named (a .shape) (start .pre .0 .formed) (a .stripe .now) (a .at) (a .n) (a .q) _ (start .pre .1) (found .failing-byte .ensures .0) (found .failing-byte .ensures .1)
-    _ (c .before .before .before .totals-at .ensures) _ (c .before .before .candidate .ensures) (c .if1 .taken ∙ c .before .column-count .ensures)
+returns c = none-named _ _ _ _ _ _ (sought (c .before .before)) (c .if1 .taken ∙ c .before .column-count .ensures)
 
 -- the candidate is a column
 there : (c : tie.Else1) → c .before .before .candidate .result < columns (c .before .before .before .before .before .before .args .shape)
@@ -47,22 +55,11 @@ lies-at-requires c κs = (c .before .before .before .before .before .before .bef
 
 returns-2 : tie.Need-returns-2
 returns-2 c =
-    let counted = c .before .before .before .before in
-    let found = counted .before .before .before in
-    let start = found .before .before in
-    let a = start .args in
-    named-column (a .shape) (start .pre .0 .formed) (a .stripe .now) (a .at) (a .n) (a .q) _ (start .pre .1) (found .failing-byte .ensures .0) (found .failing-byte .ensures .1)
-    _ (counted .before .before .totals-at .ensures) _ (counted .before .candidate .ensures) (there (c .before .before .before)) _ (c .lies-at .ensures) (c .before .before .column-agrees .ensures .yes (c .before .if2 .taken))
+    let agreed = c .before .before in
+    named-column _ _ _ _ _ _ (sought (agreed .before .before .before)) (there (agreed .before)) _ (c .lies-at .ensures) (agreed .column-agrees .ensures .yes (c .before .if2 .taken))
 
 returns-3 : tie.Need-returns-3
-returns-3 c =
-    let counted = c .before .before .before in
-    let found = counted .before .before .before in
-    let start = found .before .before in
-    let a = start .args in
-    not-this (a .shape) (start .pre .0 .formed) (a .stripe .now) (a .at) (a .n) (a .q) _ (start .pre .1) (found .failing-byte .ensures .0) (found .failing-byte .ensures .1)
-    _ (counted .before .before .totals-at .ensures) _ (counted .before .candidate .ensures) (λ e. c .before .before .if1 .left (e ∙ sym (counted .column-count .ensures)))
-    (counted .before .candidate .ensures .most) (c .before .column-agrees .ensures .no (c .if2 .left))
+returns-3 c = not-this _ _ _ _ _ _ (sought (c .before .before .before .before)) (there (c .before .before)) (c .before .column-agrees .ensures .no (c .if2 .left))
 
 pub name-column-spec : {M : Type 1} → statement M
 name-column-spec =

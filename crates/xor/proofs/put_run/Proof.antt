@@ -15,6 +15,12 @@ Inv-loop s₀ to new i₀ s i = (i ≤ length new) × Put s₀ to i (λ k. getD 
 abbrev μ-loop : tie.MeasureT-loop
 μ-loop s₀ to new i₀ s i = length new - i
 
+same-length : tie.Need-same-length Inv-loop μ-loop
+same-length c = c .before .loop .inv .1 .long
+
+returns : tie.Need-returns Inv-loop μ-loop
+returns c = put-end _ _ _ _ _ _ (c .before .loop .inv .1) (omega arith)
+
 loop-holds : tie.Need-loop-holds Inv-loop μ-loop
 loop-holds c = (omega arith, put-none _ _ _)
 
@@ -35,12 +41,6 @@ loop-less c = omega arith
 
 loop-again : tie.Need-loop-again Inv-loop μ-loop
 loop-again c = (omega arith, put-more _ _ _ _ _ _ (let w = c .before .before .loop .inv .1 .long in omega arith) (c .before .before .loop .inv .1) refl)
-
-same-length : tie.Need-same-length Inv-loop μ-loop
-same-length c = c .before .loop .inv .1 .long
-
-returns : tie.Need-returns Inv-loop μ-loop
-returns c = put-end _ _ _ _ _ _ (c .before .loop .inv .1) (omega arith)
 
 pub put-run-spec : {M : Type 1} → statement M
 put-run-spec =

@@ -8,7 +8,7 @@ use Rattle.codes.proofs.hcode.holders.Statement.{statement}
 use Rattle.codes.proofs.hcode.holders.Tie as tie
 
 sub-n : tie.Need-sub-n
-sub-n c = omega (arith, low (c .args .shape) (c .pre .0))
+sub-n c = omega (arith, low (c .before .args .shape) (c .before .pre .0))
 
 named-requires : tie.Need-named-requires
 named-requires c κs = (c .before .pre .0, omega (arith, high (c .before .args .shape) (c .before .pre .0), hcode-rows (c .before .args .shape) (c .before .pre .0) (c .before .pre .1)), omega (arith, high (c .before .args .shape) (c .before .pre .0), hcode-rows (c .before .args .shape) (c .before .pre .0) (c .before .pre .1)))
@@ -50,4 +50,4 @@ returns-3 : tie.Need-returns-3
 returns-3 c = hcode-held (c .before .before .before .before .args .shape) (c .before .before .before .before .pre .0) _ _ (c .before .before .before .before .pre .2) (c .before .before .before .before .pre .3) _ (c .before .before .before .before .pre .1) _ (c .before .before .before .if1 .left) (c .before .before .if2 .left) (c .before .turned .ensures) (c .named3 .ensures)
 
 pub holders-spec : {M : Type 1} → statement M
-holders-spec = tie.close (tie.spec sub-n named-requires returns add-if2 add-named add-named-2 named-requires-2 returns-2 sub-turned sub-turned-2 turned-requires add-named-3 named-requires-3 returns-3)
+holders-spec = tie.close (tie.spec named-requires returns sub-n add-if2 add-named add-named-2 named-requires-2 returns-2 sub-turned sub-turned-2 turned-requires add-named-3 named-requires-3 returns-3)
