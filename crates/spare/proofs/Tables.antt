@@ -16,7 +16,7 @@ use Rattle.codes.proofs.Lines.{rdp-rows}
 use Rattle.plan.specs.Plan.{diagonal}
 use Rattle.plan.specs.Right.{RdpColumn}
 use Rattle.plan.proofs.Diagonals.{home, home-back, diagonal-turned}
-use Rattle.spare.specs.Places.{starts, RowPlaces, leader, inSlot, ColumnPut, DiagonalPlaces, OnDiagonal, meets, Aimed}
+use Rattle.spare.specs.Places.{starts, LevelPlaces, leader, inSlot, ColumnPut, SlantPlaces, OnDiagonal, meets, Aimed}
 use Rattle.spare.proofs.Leads.{slot-low, slot-column, row-low, parity-far}
 
 -- so many cells are a small number of bytes
@@ -44,10 +44,10 @@ module _ (s : Shape) where
 
   module _ (k j : ℕ) (places : List ℕ) (all : s .p - 1 ≤ j) (h : LevelFilled s j places) where
     -- the row parity column is lost, or no column that rows sum
-    pub level-kept : s .p - 1 ≤ k → RowPlaces s k places
+    pub level-kept : s .p - 1 ≤ k → LevelPlaces s k places
     level-kept lk = record { long = h .long; other = λ m lm n. h .column m (omega arith); parity = λ l. absurd (omega arith) }
 
-    pub level-swapped : (at : ℕ) → k < 32 → at ≡ starts s (s .p - 1) → RowPlaces s k (set places k at)
+    pub level-swapped : (at : ℕ) → k < 32 → at ≡ starts s (s .p - 1) → LevelPlaces s k (set places k at)
     level-swapped at lk e = record {
       long = length-set places k at ∙ h .long;
       other = λ m lm n. getD-set-other places k m at 0 n ∙ h .column m (omega arith);
@@ -97,7 +97,7 @@ module _ (s : Shape) where
   }
 
   -- all columns have theirs
-  pub slant-all : (back t : ℕ) (places : List ℕ) → s .p ≤ t → SlantFilled s back t places → DiagonalPlaces s (s .p) places
+  pub slant-all : (back t : ℕ) (places : List ℕ) → s .p ≤ t → SlantFilled s back t places → SlantPlaces s (s .p) places
   unfolding inSlot
   slant-all back t places all h = record { long = h .long; slot = λ x l n. by-less x (s .p) (first x) (second x l) }
     where
@@ -128,10 +128,10 @@ module _ (s : Shape) where
 
 module _ (s : Shape) (k : ℕ) (of : RdpColumn s k) where
   -- all but column k's slots
-  pub slots-but : (places : List ℕ) → DiagonalPlaces s (s .p) places → DiagonalPlaces s k places
+  pub slots-but : (places : List ℕ) → SlantPlaces s (s .p) places → SlantPlaces s k places
   slots-but places h = record { long = h .long; slot = λ x l n. h .slot x l (λ e. omega (arith, slot-low s (of .formed) (of .rdp) x)) }
 
-  module _ (i row : ℕ) (on : OnDiagonal s k i) (e : row ≡ meets s k i) (places : List ℕ) (h : DiagonalPlaces s k places) where
+  module _ (i row : ℕ) (on : OnDiagonal s k i) (e : row ≡ meets s k i) (places : List ℕ) (h : SlantPlaces s k places) where
     -- the parity cell's place in its slot
     pub aimed : (at : ℕ) → k < s .p → at ≡ place s (cellNumber s (diagonal s k i) (s .p)) → Aimed s k i row (set places (s .p - 1 - row + i) (at - row * s .cell))
     unfolding meets

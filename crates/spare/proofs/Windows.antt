@@ -26,7 +26,7 @@ use Rattle.plan.proofs.Column.{last-row, last-column}
 use Rattle.plan.proofs.Diagonals.{home, home-back, diagonal-back, diagonal-below, diagonal-last, diagonal-turned}
 use Rattle.plan.proofs.Accepted.{every-row}
 use Rattle.plan.proofs.Cells.{taken-low}
-use Rattle.spare.specs.Places.{starts, RowPlaces, inSlot, DiagonalPlaces, OnDiagonal, meets, Aimed, RowRight}
+use Rattle.spare.specs.Places.{starts, LevelPlaces, inSlot, SlantPlaces, OnDiagonal, meets, Aimed, RowRight}
 use Rattle.spare.proofs.Choice.{by-row, by-diagonal, chosen-held}
 use Rattle.spare.proofs.Leads.{slot-column, row-low}
 use Rattle.spare.proofs.Slots.{Held, OthersAt, others-kept, others-swapped}
@@ -46,7 +46,7 @@ module _ (s : Shape) (k plan i bytes : ℕ) (right : RowRight s bytes k plan i) 
 
   -- ---- by row: slot j has column j's place
 
-  module _ (taken : bit i plan ≡ false) (places : List ℕ) (h : RowPlaces s k places) where
+  module _ (taken : bit i plan ≡ false) (places : List ℕ) (h : LevelPlaces s k places) where
     row-slot : (j : ℕ) → j < s .p - 1 → getD (take (s .p - 1) places) j 0 ≡ getD places j 0
     row-slot j l = getD-take (s .p - 1) places j 0 l
 

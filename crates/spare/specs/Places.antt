@@ -16,7 +16,7 @@ abbrev pub starts : Shape → ℕ → ℕ
 starts s j = place s (cellNumber s 0 j)
 
 -- the places have, for each of the first p-1 columns, where it starts; the row parity column's start stands in for column k's
-pub record RowPlaces (s : Shape) (k : ℕ) (places : List ℕ) : Type 0 where
+pub record LevelPlaces (s : Shape) (k : ℕ) (places : List ℕ) : Type 0 where
   pub long : length places ≡ 32
   pub other : (j : ℕ) → j < s .p - 1 → j ≢ k → getD places j 0 ≡ starts s j
   pub parity : k < s .p - 1 → getD places k 0 ≡ starts s (s .p - 1)
@@ -37,7 +37,7 @@ pub record ColumnPut (p t above below : ℕ) (places places′ : List ℕ) : Typ
   pub kept : (m : ℕ) → m < p → m ≢ t → (getD places′ (p - 1 - m) 0 ≡ getD places (p - 1 - m) 0) × (getD places′ (p - 1 - m + p) 0 ≡ getD places (p - 1 - m + p) 0)
 
 -- slot x has where its column starts, and x cells more, all less p-1 cells; but for column k's slots
-pub record DiagonalPlaces (s : Shape) (k : ℕ) (places : List ℕ) : Type 0 where
+pub record SlantPlaces (s : Shape) (k : ℕ) (places : List ℕ) : Type 0 where
   pub long : length places ≡ 64
   pub slot : (x : ℕ) → x < s .p - 1 + s .p → inSlot s x ≢ k → getD places x 0 + (s .p - 1) * s .cell ≡ starts s (inSlot s x) + x * s .cell
 
@@ -52,7 +52,7 @@ meets s k i = (diagonal s k i + (s .p - leader s)) % s .p
 -- the p-1 slots from p-1-r on have where the other cells of the diagonal start, less r cells: its parity cell's place stands in for column k's
 pub record Aimed (s : Shape) (k i r : ℕ) (places : List ℕ) : Type 0 where
   pub row : r ≡ meets s k i
-  pub listed : DiagonalPlaces s k places
+  pub listed : SlantPlaces s k places
   pub parity : k < s .p → getD places (s .p - 1 - r + i) 0 + r * s .cell ≡ place s (cellNumber s (diagonal s k i) (s .p))
 
 -- row i of a lost column is to be rebuilt by an accepted plan from a stripe of so many bytes
@@ -66,6 +66,6 @@ pub record RowRight (s : Shape) (bytes k plan i : ℕ) : Type 0 where
 pub record RowReady (s : Shape) (bytes k plan i lead part : ℕ) (level slant : List ℕ) : Type 0 where
   pub right : RowRight s bytes k plan i
   pub leads : lead ≡ leader s
-  pub by-row : RowPlaces s k level
-  pub by-diagonal : DiagonalPlaces s k slant
+  pub by-row : LevelPlaces s k level
+  pub by-diagonal : SlantPlaces s k slant
   pub whole : part ≡ s .cell

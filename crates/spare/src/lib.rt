@@ -10,7 +10,7 @@ ghost use Rattle.codes.specs.Refusals.{refusal};
 ghost use Rattle.plan.specs.Right.{RdpColumn};
 ghost use Rattle.spare.specs.Refusals.{spareFaults, runFaults, showFaults};
 ghost use Rattle.spare.specs.Right.{RunRight};
-ghost use Rattle.spare.specs.Places.{RowPlaces, leader, ColumnPut, DiagonalPlaces, OnDiagonal, Aimed, RowReady};
+ghost use Rattle.spare.specs.Places.{LevelPlaces, leader, ColumnPut, SlantPlaces, OnDiagonal, Aimed, RowReady};
 ghost use Rattle.spare.specs.Run.{RowPut, RowsRebuilt, RunsByPlan};
 ghost use Rattle.spare.specs.Show.{reason, Shown, Shows};
 use codes::Counted;
@@ -111,7 +111,7 @@ fn show_refusal(
 // first p - 1 columns. The parity cell's place stands in for column k's.
 fn row_places(shape: Shape, k: usize, places: &mut [usize; COLUMNS])
     requires { ⌜ RdpColumn shape k × (length (now places) ≡ 32) ⌝ }
-    ensures { λ _. ⌜ RowPlaces shape k (now (places .exit)) ⌝ }
+    ensures { λ _. ⌜ LevelPlaces shape k (now (places .exit)) ⌝ }
 {
     let n = shape.p - 1;
     let mut j = 0;
@@ -148,7 +148,7 @@ fn put_column(places: &mut [usize; SLOTS], p: usize, t: usize, above: usize, bel
 // it in row r then has its cells, row after row, from slot p - 1 - r on, each r cells further on.
 fn diagonal_places(shape: Shape, lead: usize, places: &mut [usize; SLOTS])
     requires { ⌜ WellFormed shape × (shape .code ≡ 1) × (lead ≡ leader shape) × (length (now places) ≡ 64) ⌝ }
-    ensures { λ _. ⌜ DiagonalPlaces shape (shape .p) (now (places .exit)) ⌝ }
+    ensures { λ _. ⌜ SlantPlaces shape (shape .p) (now (places .exit)) ⌝ }
 {
     let p = shape.p;
     let turn = p * shape.cell;
@@ -165,7 +165,7 @@ fn diagonal_places(shape: Shape, lead: usize, places: &mut [usize; SLOTS])
 // Puts the place of the parity cell of row i's diagonal in for that of column k's cell. Answers the row in which the diagonal meets the column
 // that leads.
 fn aim(shape: Shape, lead: usize, k: usize, i: usize, slant: &mut [usize]) -> usize
-    requires { ⌜ RdpColumn shape k × OnDiagonal shape k i × (lead ≡ leader shape) × DiagonalPlaces shape k (now slant) ⌝ }
+    requires { ⌜ RdpColumn shape k × OnDiagonal shape k i × (lead ≡ leader shape) × SlantPlaces shape k (now slant) ⌝ }
     ensures { λ r. ⌜ Aimed shape k i r (now (slant .exit)) ⌝ }
 {
     let p = shape.p;
@@ -191,7 +191,7 @@ fn rebuild_row(
     part: &mut [u8],
 )
     requires { ⌜ RowReady shape (length (now stripe)) k plan i lead (length (now part)) (now level) (now slant) ⌝ }
-    ensures { λ _. ⌜ RowPut shape k plan i (now (stripe .entry)) (now (part .entry)) (now (part .exit)) × DiagonalPlaces shape k (now (slant .exit)) ⌝ }
+    ensures { λ _. ⌜ RowPut shape k plan i (now (stripe .entry)) (now (part .entry)) (now (part .exit)) × SlantPlaces shape k (now (slant .exit)) ⌝ }
 {
     let cell = shape.cell;
     let n = shape.p - 1;

@@ -6,7 +6,7 @@ use native.Mathlib.Omega.{arith}
 use lib.ListN.{length}
 use Rattle.codes.specs.Shape.{rows}
 use Rattle.codes.proofs.Shapes.{rows-high}
-use Rattle.spare.specs.Places.{DiagonalPlaces}
+use Rattle.spare.specs.Places.{SlantPlaces}
 use Rattle.spare.specs.Run.{RowsRebuilt}
 use Rattle.spare.proofs.Column.{row-ends, row-small}
 use Rattle.spare.proofs.Tables.{slots-but}
@@ -16,7 +16,7 @@ use Rattle.spare.proofs.run_rows.Tie as tie
 
 abbrev Inv-loop : tie.InvT-loop
 Inv-loop shape stripe k plan spare₀ first n level lead slant₀ cell end i₀ spare slant i =
-    (first ≤ i) × (i ≤ end) × DiagonalPlaces shape k slant × RowsRebuilt shape k plan first (i - first) stripe spare₀ spare
+    (first ≤ i) × (i ≤ end) × SlantPlaces shape k slant × RowsRebuilt shape k plan first (i - first) stripe spare₀ spare
 
 abbrev μ-loop : tie.MeasureT-loop
 μ-loop shape stripe k plan spare₀ first n level lead slant₀ cell end i₀ spare slant i = end - i
