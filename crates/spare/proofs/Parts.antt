@@ -10,6 +10,7 @@ use lib.Seq.{length-take-le, getD-take, getD-drop, getD-append-add}
 use borrow.Rule.Slice.PartMut.{midOf, postOf, putMid, mid-len, same-len-mid, post-is}
 use Rattle.xor.specs.Runs.{sumAt, Inside, Put}
 use Rattle.xor.proofs.Cases.{by-equal}
+use Rattle.xor.proofs.Runs.{shorter, put-end}
 use Rattle.codes.specs.declared.Shape.{Shape}
 use Rattle.codes.specs.Shape.{cellNumber, stripeLength, WellFormed}
 use Rattle.codes.proofs.Places.{cells-apart}
@@ -19,15 +20,17 @@ use Rattle.spare.proofs.Slots.{OthersAt}
 
 -- ---- the other cells of the chosen equation lie inside the stripe
 
-pub others-inside : (s : Shape) (q own at bytes : ℕ) (places : List ℕ) → bytes ≡ stripeLength s → OthersAt s q own at places → Inside bytes places (at + s .cell)
-others-inside s q own at bytes places e h = subst (λ (n : ℕ). Inside n places (at + s .cell)) (sym e) (h .inside)
+pub others-inside : (s : Shape) (q own at bytes part : ℕ) (places : List ℕ) → bytes ≡ stripeLength s → part ≡ s .cell → OthersAt s q own at places → Inside bytes places (at + part)
+others-inside s q own at bytes part places e whole h = shorter (stripeLength s) bytes (at + s .cell) (at + part) places (h .inside) e (omega arith)
 
 -- ---- the sum of the other cells of the chosen equation, set in the row's part, is the row rebuilt
 
-pub row-put : (s : Shape) (k plan i at : ℕ) (places stripe old new : List ℕ) → OthersAt s (chosen s k plan i) (cellNumber s i k) at places
-    → Put old 0 (s .cell) (λ t. sumAt stripe places (at + t)) new → Put old 0 (s .cell) (rebuiltByte s k plan stripe i) new
+pub row-put : (s : Shape) (k plan i at part : ℕ) (places stripe old new : List ℕ) → part ≡ s .cell → OthersAt s (chosen s k plan i) (cellNumber s i k) at places
+    → Put old 0 part (λ t. sumAt stripe places (at + t)) new → Put old 0 (s .cell) (rebuiltByte s k plan stripe i) new
 unfolding rebuiltByte
-row-put s k plan i at places stripe old new h put = record { long = put .long; inner = λ t l. put .inner t l ∙ h .sum stripe t; outer = put .outer }
+row-put s k plan i at part places stripe old new whole h put =
+    let all = put-end old new 0 (s .cell) part (λ t. sumAt stripe places (at + t)) put whole in
+    record { long = all .long; inner = λ t l. all .inner t l ∙ h .sum stripe t; outer = all .outer }
 
 -- ---- a part in the middle: what is set in it is set in the whole
 

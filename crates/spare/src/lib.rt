@@ -196,13 +196,13 @@ fn rebuild_row(
     let cell = shape.cell;
     let n = shape.p - 1;
     if plan & bits::one_bit(i) == 0 {
-        xor::put_sum_from(part, 0, stripe, &level[..n], i * cell, cell);
+        xor::put_sum_whole(part, stripe, &level[..n], i * cell);
         return;
     }
     let row = aim(shape, lead, k, i, slant);
     let from = n - row;
     let to = from + n;
-    xor::put_sum_from(part, 0, stripe, &slant[from..to], row * cell, cell);
+    xor::put_sum_whole(part, stripe, &slant[from..to], row * cell);
 }
 
 // Rebuilds n rows of the spare from the first on, each into its own part: no other byte of the spare changes. Where their cells start is

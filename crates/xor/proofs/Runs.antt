@@ -167,6 +167,12 @@ pub put-from : (d₀ d d′ s places : List ℕ) (to at next m done : ℕ) → P
 put-from d₀ d d′ s places to at next m done h b =
     put-over d₀ d d′ to next m done (λ t. sumAt s places (at + t)) (λ t. sumAt s places (at + next + t)) h b (λ t l. ap (sumAt s places) (add-assoc at next t))
 
+-- the same at the start of the other list
+pub put-start : (d₀ d d′ s places : List ℕ) (at next m done : ℕ) → Put d₀ 0 done (λ t. sumAt s places (at + t)) d → Put d next m (λ t. sumAt s places (at + next + t)) d′
+    → next ≤ done → done ≤ next + m → Put d₀ 0 (next + m) (λ t. sumAt s places (at + t)) d′
+put-start d₀ d d′ s places at next m done h b =
+    put-from d₀ d d′ s places 0 at next m done h (subst (λ (k : ℕ). Put d k m (λ t. sumAt s places (at + next + t)) d′) (sym (zero-add next)) b)
+
 -- one block more, where x t is XORed into each byte t: bytes not reached yet are as they were
 put-next : (s₀ s s′ : List ℕ) (to done m : ℕ) (x g : ℕ → ℕ) → Put s₀ to done (λ t. getD s₀ (to + t) 0 ⊕ x t) s → Put s (to + done) m g s′
     → ((t : ℕ) → t < m → g t ≡ getD s (to + (done + t)) 0 ⊕ x (done + t)) → Put s₀ to (done + m) (λ t. getD s₀ (to + t) 0 ⊕ x t) s′

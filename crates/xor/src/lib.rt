@@ -192,6 +192,25 @@ pub fn put_sum_from(d: &mut [u8], to: usize, s: &[u8], places: &[usize], at: usi
     }
 }
 
+// Sets the whole of d to the bytes from `at` on of the XOR of the runs of s at the places. Besides put_sum_from, so that each stays in the one
+// loop that calls it.
+pub fn put_sum_whole(d: &mut [u8], s: &[u8], places: &[usize], at: usize)
+    requires { ⌜ Inside (length (now s)) (now places) (at + length (now d)) × (at + length (now d) < 2 ^ 64) ⌝ }
+    ensures { λ _. ⌜ Put (now (d .entry)) 0 (length (now (d .entry))) (λ t. sumAt (now (s .entry)) (now (places .entry)) (at + t)) (now (d .exit)) ⌝ }
+{
+    let n = d.len();
+    if n < 128 {
+        put_block_from(d, 0, s, places, at, n);
+        return;
+    }
+    let mut done = 0;
+    while done < n {
+        let next = block_at(done, n);
+        put_block_from(d, next, s, places, at + next, 128);
+        done = next + 128;
+    }
+}
+
 // Byte t of the XOR of the runs at the places.
 pub fn sum_byte(s: &[u8], places: &[usize], t: usize) -> u8
     requires { ⌜ Inside (length (now s)) (now places) (t + 1) ⌝ }

@@ -26,24 +26,23 @@ one-bit-requires c κs =
     let right = c .before .before .before .before .before .pre .right in
     omega (arith, right .row, last-row _ _ (right .of), high _ (right .of .formed))
 
-slice-aggregate-put-sum-from : tie.Need-slice-aggregate-put-sum-from
-slice-aggregate-put-sum-from c =
+slice-aggregate-put-sum-whole : tie.Need-slice-aggregate-put-sum-whole
+slice-aggregate-put-sum-whole c =
     let start = c .before .before .before .before .before .before .before .before .before in
     let a = start .args in
     omega (arith, first-long (a .level .now) (a .shape .p - 1) (omega (arith, start .pre .by-row .long, high (a .shape) (start .pre .right .of .formed))))
 
-mul-put-sum-from : tie.Need-mul-put-sum-from
-mul-put-sum-from c =
+mul-put-sum-whole : tie.Need-mul-put-sum-whole
+mul-put-sum-whole c =
     let right = c .before .before .before .before .before .before .before .before .before .pre .right in
     omega (arith, row-small _ (right .of .formed) _ (right .row))
 
-put-sum-from-requires : tie.Need-put-sum-from-requires
-put-sum-from-requires c κs =
+put-sum-whole-requires : tie.Need-put-sum-whole-requires
+put-sum-whole-requires c κs =
     let pre = c .before .before .before .before .before .before .before .before .before .pre in
     let right = pre .right in (
-      others-inside _ _ _ _ _ _ (right .long) (row-others _ _ _ _ _ right (bit-clear _ _ _ (c .before .before .before .one-bit .ensures) (c .before .before .if1 .taken)) _ (pre .by-row)),
-      omega (arith, pre .whole),
-      omega (arith, row-small _ (right .of .formed) _ (right .row)),
+      others-inside _ _ _ _ _ _ _ (right .long) (pre .whole) (row-others _ _ _ _ _ right (bit-clear _ _ _ (c .before .before .before .one-bit .ensures) (c .before .before .if1 .taken)) _ (pre .by-row)),
+      omega (arith, pre .whole, row-small _ (right .of .formed) _ (right .row)),
     )
 
 same-length : tie.Need-same-length
@@ -53,7 +52,7 @@ returns : tie.Need-returns
 returns c =
     let called = c .before .before .before in
     let pre = called .before .before .before .before .before .before .before .before .before .pre in (
-      row-put _ _ _ _ _ _ _ _ _ (row-others _ _ _ _ _ (pre .right) (bit-clear _ _ _ (called .before .before .before .one-bit .ensures) (called .before .before .if1 .taken)) _ (pre .by-row)) (c .before .before .put-sum-from .ensures),
+      row-put _ _ _ _ _ _ _ _ _ _ (pre .whole) (row-others _ _ _ _ _ (pre .right) (bit-clear _ _ _ (called .before .before .before .one-bit .ensures) (called .before .before .if1 .taken)) _ (pre .by-row)) (c .before .before .put-sum-whole .ensures),
       pre .by-diagonal,
     )
 
@@ -77,31 +76,30 @@ sub-from c = omega (arith, row-few (c .before .before))
 add-to : tie.Need-add-to
 add-to c = omega (arith, high _ (c .before .before .before .before .before .before .before .before .before .before .before .pre .right .of .formed))
 
-mul-put-sum-from-2 : tie.Need-mul-put-sum-from-2
-mul-put-sum-from-2 c = omega (arith, high _ (c .before .before .before .before .before .before .before .before .before .before .before .before .pre .right .of .formed))
+mul-put-sum-whole-2 : tie.Need-mul-put-sum-whole-2
+mul-put-sum-whole-2 c = omega (arith, high _ (c .before .before .before .before .before .before .before .before .before .before .before .before .pre .right .of .formed))
 
-sub-put-sum-from : tie.Need-sub-put-sum-from
-sub-put-sum-from c = search needs
+sub-put-sum-whole : tie.Need-sub-put-sum-whole
+sub-put-sum-whole c = search needs
 
-part-put-sum-from-start : tie.Need-part-put-sum-from-start
-part-put-sum-from-start c = search needs
+part-put-sum-whole-start : tie.Need-part-put-sum-whole-start
+part-put-sum-whole-start c = search needs
 
-part-put-sum-from-end : tie.Need-part-put-sum-from-end
-part-put-sum-from-end c = omega (arith, c .before .before .before .before .aim .ensures .listed .long, high _ (c .before .before .before .before .before .before .before .before .before .before .before .before .before .pre .right .of .formed))
+part-put-sum-whole-end : tie.Need-part-put-sum-whole-end
+part-put-sum-whole-end c = omega (arith, c .before .before .before .before .aim .ensures .listed .long, high _ (c .before .before .before .before .before .before .before .before .before .before .before .before .before .pre .right .of .formed))
 
-mul-put-sum-from-3 : tie.Need-mul-put-sum-from-3
-mul-put-sum-from-3 c =
+mul-put-sum-whole-3 : tie.Need-mul-put-sum-whole-3
+mul-put-sum-whole-3 c =
     let w = c .before .before .before .before .before .before .before .before .before .before .before .before .before .before .pre .right .of .formed in
     omega (arith, step-small _ w (c .before .before .before .before .before .aim .result) (omega (arith, row-few (c .before .before .before .before .before), high _ w)))
 
-put-sum-from-requires-2 : tie.Need-put-sum-from-requires-2
-put-sum-from-requires-2 c κs =
+put-sum-whole-requires-2 : tie.Need-put-sum-whole-requires-2
+put-sum-whole-requires-2 c κs =
     let aimed = c .before .before .before .before .before in
     let pre = c .before .before .before .before .before .before .before .before .before .before .before .before .before .before .pre in
     let w = pre .right .of .formed in (
-      others-inside _ _ _ _ _ _ (pre .right .long) (diagonal-others _ _ _ _ _ (pre .right) (taken (aimed .before .before)) _ _ (aimed .aim .ensures)),
-      omega (arith, pre .whole),
-      omega (arith, step-small _ w (aimed .aim .result) (omega (arith, row-few aimed, high _ w)), w .cellHigh),
+      others-inside _ _ _ _ _ _ _ (pre .right .long) (pre .whole) (diagonal-others _ _ _ _ _ (pre .right) (taken (aimed .before .before)) _ _ (aimed .aim .ensures)),
+      omega (arith, pre .whole, step-small _ w (aimed .aim .result) (omega (arith, row-few aimed, high _ w)), w .cellHigh),
     )
 
 same-length-2 : tie.Need-same-length-2
@@ -114,7 +112,7 @@ returns-2 : tie.Need-returns-2
 returns-2 c =
     let aimed = c .before .before .before .before .before .before .before .before in
     let pre = aimed .before .before .before .before .before .before .before .before .before .pre in (
-      row-put _ _ _ _ _ _ _ _ _ (diagonal-others _ _ _ _ _ (pre .right) (taken (aimed .before .before)) _ _ (aimed .aim .ensures)) (c .before .before .put-sum-from2 .ensures),
+      row-put _ _ _ _ _ _ _ _ _ _ (pre .whole) (diagonal-others _ _ _ _ _ (pre .right) (taken (aimed .before .before)) _ _ (aimed .aim .ensures)) (c .before .before .put-sum-whole2 .ensures),
       aimed .aim .ensures .listed,
     )
 
@@ -124,20 +122,20 @@ rebuild-row-spec =
     (tie.spec
     sub-n
     one-bit-requires
-    slice-aggregate-put-sum-from
-    mul-put-sum-from
-    put-sum-from-requires
+    slice-aggregate-put-sum-whole
+    mul-put-sum-whole
+    put-sum-whole-requires
     same-length
     returns
     aim-requires
     sub-from
     add-to
-    mul-put-sum-from-2
-    sub-put-sum-from
-    part-put-sum-from-start
-    part-put-sum-from-end
-    mul-put-sum-from-3
-    put-sum-from-requires-2
+    mul-put-sum-whole-2
+    sub-put-sum-whole
+    part-put-sum-whole-start
+    part-put-sum-whole-end
+    mul-put-sum-whole-3
+    put-sum-whole-requires-2
     same-length-2
     same-length-3
     returns-2)
