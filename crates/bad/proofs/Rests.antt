@@ -2,10 +2,10 @@
 use mathlib.Core.Path.{_≡_, refl, sym, ap, ap₂, _∙_, subst}
 use mathlib.Core.Logic.{_≢_}
 use mathlib.Core.List.{List}
-use mathlib.Core.Bool.{Bool, true, false, cond, not, _&&_}
+use mathlib.Core.Bool.{Bool, true, false, cond, not, _&&_, and-true, and-false}
 use Prim.Native.Nat.{ℕ, _+_, _-_, _≤_, _<_}
 use native.Mathlib.Omega.{arith}
-use lib.Bits.{bitXor}
+use lib.Bits.{bitXor, bitAnd}
 use lib.Dec.{eqb, ltb}
 use lib.ListN.{length, getD, set, length-set}
 use lib.Seq.{getD-set-same, getD-set-other}
@@ -16,6 +16,7 @@ use Rattle.xor.proofs.Algebra.{⊕-is, ⊕-zero, ⊕-assoc}
 use Rattle.xor.proofs.Sums.{xors-none, xors-more, xors-same}
 use Rattle.bits.specs.Bit.{bit, IsLowest}
 use Rattle.bits.proofs.Bits.{bit-zero}
+use Rattle.bits.proofs.Masks.{clear-lowest}
 use Rattle.codes.specs.declared.Shape.{Shape}
 use Rattle.codes.specs.Shape.{cells, equations, cellNumber, WellFormed}
 use Rattle.codes.specs.Holders.{holds, HeldBy}
@@ -36,6 +37,25 @@ filled-more f old q x l before here k lk =
 added : (b : Bool) (a x : ℕ) → cond b (bitXor a x) a ≡ a ⊕ cond b x 0
 added true a x = sym (⊕-is a x)
 added false a x = sym (⊕-zero a)
+
+-- x XORed into the lowest member's entry, and then into the others'
+pub added-first : (old next : List ℕ) (m low x : ℕ) → low < 64 → IsLowest 64 (λ k. bit k m) low → length old ≡ 64
+    → Added (set old low (bitXor (getD old low 0) x)) (bitAnd m (m - 1)) x next → Added old m x next
+added-first old next m low x l lowest long h = record {
+  long = h .long;
+  mask = λ r lr. h .mask r lr ∙ ap (λ (b : Bool). cond b (bitXor (at r) x) (at r)) (others r) ∙ by-equal r low
+      (λ e. ap (λ (b : Bool). cond (bit r m && not b) (bitXor (at r) x) (at r)) (eq-eqb r low e)
+      ∙ ap (λ (b : Bool). cond b (bitXor (at r) x) (at r)) (and-false (bit r m)) ∙ ap at e ∙ getD-set-same old low (bitXor (getD old low 0) x) 0 (omega arith)
+      ∙ ap (λ (k : ℕ). bitXor (getD old k 0) x) (sym e) ∙ sym (ap (λ (b : Bool). cond b (bitXor (getD old r 0) x) (getD old r 0)) (ap (λ (k : ℕ). bit k m) e ∙ lowest .passes l)))
+      (λ n. ap (λ (b : Bool). cond (bit r m && not b) (bitXor (at r) x) (at r)) (ne-eqb r low n) ∙ ap (λ (b : Bool). cond b (bitXor (at r) x) (at r)) (and-true (bit r m))
+      ∙ ap (λ (y : ℕ). cond (bit r m) (bitXor y x) y) (getD-set-other old low r (bitXor (getD old low 0) x) 0 n));
+}
+  where
+    at : ℕ → ℕ
+    at r = getD (set old low (bitXor (getD old low 0) x)) r 0
+
+    others : (r : ℕ) → bit r (bitAnd m (m - 1)) ≡ (bit r m && not (eqb r low))
+    others = clear-lowest 64 m low lowest l
 
 module _ (s : Shape) (w : WellFormed s) (c m : ℕ) (inside : c < cells s) (held : HeldBy s c m) where
   -- some equation holds the cell

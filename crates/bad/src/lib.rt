@@ -62,7 +62,8 @@ fn without_column(shape: Shape, totals: [u8; bits::ROOM], column: usize) -> [u8;
         let held = codes::holders_of(shape, i, column);
         let first = bits::lowest_bit(held) as usize;
         let x = totals[first];
-        add_to(&mut rest, held, x);
+        rest[first] = rest[first] ^ x;
+        add_to(&mut rest, held & (held - 1), x);
         i += 1;
     }
     rest

@@ -29,9 +29,12 @@ use Rattle.codes.proofs.Geometry.{number-at, row-at, column-at}
 use Rattle.codes.proofs.Held.{data-holds, parity-holds, none-after, held-below, held-is}
 use Rattle.codes.proofs.Units.{depend}
 
--- a turned column is small
+-- a turned column is a column, and small
+pub turn-below : (a n p : ℕ) → 3 ≤ p → a ≡ n % p → a < p
+turn-below a n p lo e = let l : n % p < p = mod-lt n (omega arith) in omega arith
+
 pub small-turn : (a n p : ℕ) → 3 ≤ p → p ≤ 31 → a ≡ n % p → a ≤ 31
-small-turn a n p lo hi e = let l : n % p < p = mod-lt n (omega arith) in omega arith
+small-turn a n p lo hi e = omega (arith, turn-below a n p lo e)
 
 module _ (s : Shape) (w : WellFormed s) (c : ℕ) (inside : c < cells s) (plain : isParity s c ≡ false) where
   -- no equation sums the parity cell of one that holds the cell

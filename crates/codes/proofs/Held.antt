@@ -36,6 +36,15 @@ named-is s a b n x y z ex ey en ez = record {
     swap false true = refl
     swap false false = refl
 
+-- where both are equations nothing has to be cut off
+pub pair-is : (s : Shape) (a b x y : ℕ) → a < equations s → b < equations s → x ≡ 2 ^ a → y ≡ 2 ^ b → Named s a b (bitOr x y)
+pair-is s a b x y la lb ex ey = record {
+  bits = λ q.
+      bit-or q x y ∙ ap₂ _||_ (ap (bit q) ex ∙ bit-power q a) (ap (bit q) ey ∙ bit-power q b)
+      ∙ by-less q (equations s) (λ l. rw (lt-ltb q (equations s) l) refl)
+      (λ l. rw (le-ltb q (equations s) l, ne-eqb q a (λ e. omega arith), ne-eqb q b (λ e. omega arith)) refl);
+}
+
 module _ (s : Shape) where
   -- the equations that are named are those that hold the cell
   held : (c a b m : ℕ) → Named s a b m → ((q : ℕ) → q < equations s → holds s q c ≡ (eqb q a || eqb q b)) → HeldBy s c m

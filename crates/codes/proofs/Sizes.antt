@@ -37,9 +37,9 @@ module _ (s : Shape) where
   pair : ℕ → ℕ → ℕ
   pair a b = bitAnd (bitOr (2 ^ a) (2 ^ b)) (2 ^ equations s - 1)
 
-  pair-is : (a b : ℕ) → Named s a b (pair a b)
+  pair-set : (a b : ℕ) → Named s a b (pair a b)
   unfolding pair
-  pair-is a b = named-is s a b (equations s) (2 ^ a) (2 ^ b) (2 ^ equations s) refl refl refl refl
+  pair-set a b = named-is s a b (equations s) (2 ^ a) (2 ^ b) (2 ^ equations s) refl refl refl refl
 
   three-size : (a b d m : ℕ) → a ≢ b → a ≢ d → b ≢ d → ((q : ℕ) → q < equations s → bit q m ≡ (eqb q a || (eqb q b || eqb q d)))
       → count (equations s) (λ q. bit q m) ≡ cond (ltb a (equations s)) 1 0 + (cond (ltb b (equations s)) 1 0 + cond (ltb d (equations s)) 1 0)
@@ -79,8 +79,8 @@ module _ (s : Shape) (w : WellFormed s) (i j : ℕ) (cell : DataCell s i j) wher
     rdp-size = record {
       set = bitOr (pair s i a) (pair s i b);
       depends = rdp-depends s w i j cell is-rdp (pair s i a) (pair s i b)
-          (rdp-held s w i j (cell .low) (cell .right) (pair s i a) is-rdp ((i + j) % s .p) (λ e. omega (arith, small′)) refl (pair-is s i a))
-          (rdp-held s w i (s .p - 1) (cell .low) (omega (arith, rdp-columns s w is-rdp)) (pair s i b) is-rdp ((i + (s .p - 1)) % s .p) (λ e. omega (arith, small)) refl (pair-is s i b));
+          (rdp-held s w i j (cell .low) (cell .right) (pair s i a) is-rdp ((i + j) % s .p) (λ e. omega (arith, small′)) refl (pair-set s i a))
+          (rdp-held s w i (s .p - 1) (cell .low) (omega (arith, rdp-columns s w is-rdp)) (pair s i b) is-rdp ((i + (s .p - 1)) % s .p) (λ e. omega (arith, small)) refl (pair-set s i b));
       size = three-size s i a b (bitOr (pair s i a) (pair s i b)) (λ e. omega (arith, small)) (λ e. omega (arith, small)) (λ e. two-diagonals s w i j cell is-rdp (omega arith)) members ∙ rw (lt-ltb i (equations s) known) counted;
     }
       where
@@ -112,7 +112,7 @@ module _ (s : Shape) (w : WellFormed s) (i j : ℕ) (cell : DataCell s i j) wher
             (λ z. rw (ne-eqb (i + j) (s .p - 1) z, lt-ltb a (equations s) (inside-diagonal z)) refl)))
 
         members : (q : ℕ) → q < equations s → bit q (bitOr (pair s i a) (pair s i b)) ≡ (eqb q i || (eqb q a || eqb q b))
-        members q l = bit-or q (pair s i a) (pair s i b) ∙ ap₂ _||_ (pair-is s i a .bits q) (pair-is s i b .bits q) ∙ rw (lt-ltb q (equations s) l) (join (eqb q i) (eqb q a) (eqb q b))
+        members q l = bit-or q (pair s i a) (pair s i b) ∙ ap₂ _||_ (pair-set s i a .bits q) (pair-set s i b .bits q) ∙ rw (lt-ltb q (equations s) l) (join (eqb q i) (eqb q a) (eqb q b))
           where
             join : (x y z : Bool) → ((x || y) || (x || z)) ≡ (x || (y || z))
             join true y z = refl
@@ -123,7 +123,7 @@ module _ (s : Shape) (w : WellFormed s) (i j : ℕ) (cell : DataCell s i j) wher
   two-size a b n la lb other held = record {
     set = pair s a b;
     depends = other-depends s w i j cell other (pair s a b) held;
-    size = three-size s a b (equations s) (pair s a b) n (λ e. omega arith) (λ e. omega arith) (λ q l. pair-is s a b .bits q ∙ rw (lt-ltb q (equations s) l, ne-eqb q (equations s) (λ e. omega arith)) (or-nothing (eqb q a) (eqb q b)))
+    size = three-size s a b (equations s) (pair s a b) n (λ e. omega arith) (λ e. omega arith) (λ q l. pair-set s a b .bits q ∙ rw (lt-ltb q (equations s) l, ne-eqb q (equations s) (λ e. omega arith)) (or-nothing (eqb q a) (eqb q b)))
         ∙ rw (lt-ltb a (equations s) la, lt-ltb b (equations s) lb, le-ltb (equations s) (equations s) (omega arith)) refl;
   }
     where
@@ -139,7 +139,7 @@ module _ (s : Shape) (w : WellFormed s) (i j : ℕ) (cell : DataCell s i j) wher
       let turn : (j + (s .p - 2 - i)) % s .p < s .p = mod-lt (j + (s .p - 2 - i)) (omega arith) in
       let one = one-of-them s w i j cell is-hcode in
       two-size i (s .p - 1 + (j + (s .p - 2 - i)) % s .p) (λ e. omega arith) (omega (arith, hcode-n s w is-hcode)) (omega (arith, hcode-n s w is-hcode)) (λ e. omega arith)
-      (hcode-held s w i j (cell .low) (cell .right) (pair s i (s .p - 1 + (j + (s .p - 2 - i)) % s .p)) is-hcode ((j + (s .p - 2 - i)) % s .p) (λ e. omega arith) (hcode-off s w i j cell is-hcode) refl (pair-is s i (s .p - 1 + (j + (s .p - 2 - i)) % s .p)))
+      (hcode-held s w i j (cell .low) (cell .right) (pair s i (s .p - 1 + (j + (s .p - 2 - i)) % s .p)) is-hcode ((j + (s .p - 2 - i)) % s .p) (λ e. omega arith) (hcode-off s w i j cell is-hcode) refl (pair-set s i (s .p - 1 + (j + (s .p - 2 - i)) % s .p)))
 
   pub xcode-size : s .code ≡ 3 → Sized s (cellNumber s i j) 2
   xcode-size is-xcode =
@@ -147,4 +147,4 @@ module _ (s : Shape) (w : WellFormed s) (i j : ℕ) (cell : DataCell s i j) wher
       let turn : (j + (s .p - 2 - i)) % s .p < s .p = mod-lt (j + (s .p - 2 - i)) (omega arith) in
       let turn′ : (j + (i + 2)) % s .p < s .p = mod-lt (j + (i + 2)) (omega arith) in
       two-size ((j + (s .p - 2 - i)) % s .p) (s .p + (j + (i + 2)) % s .p) (λ e. omega arith) (omega (arith, xcode-n s w is-xcode)) (omega (arith, xcode-n s w is-xcode)) (λ e. omega arith)
-      (xcode-held s w i j (cell .low) (cell .right) (pair s ((j + (s .p - 2 - i)) % s .p) (s .p + (j + (i + 2)) % s .p)) is-xcode ((j + (s .p - 2 - i)) % s .p) ((j + (i + 2)) % s .p) (λ e. omega arith) (λ e. omega arith) refl refl (pair-is s ((j + (s .p - 2 - i)) % s .p) (s .p + (j + (i + 2)) % s .p)))
+      (xcode-held s w i j (cell .low) (cell .right) (pair s ((j + (s .p - 2 - i)) % s .p) (s .p + (j + (i + 2)) % s .p)) is-xcode ((j + (s .p - 2 - i)) % s .p) ((j + (i + 2)) % s .p) (λ e. omega arith) (λ e. omega arith) refl refl (pair-set s ((j + (s .p - 2 - i)) % s .p) (s .p + (j + (i + 2)) % s .p)))

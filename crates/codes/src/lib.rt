@@ -370,6 +370,14 @@ fn named(shape: Shape, a: usize, b: usize) -> u64
     (bits::one_bit(a) | bits::one_bit(b)) & (bits::one_bit(equation_count(shape)) - 1)
 }
 
+// The set of the equations numbered a and b: the same where both are known to be there.
+fn pair(shape: Shape, a: usize, b: usize) -> u64
+    requires { ⌜ WellFormed shape × (a < equations shape) × (b < equations shape) ⌝ }
+    ensures { λ r. ⌜ Named shape a b r ⌝ }
+{
+    bits::one_bit(a) | bits::one_bit(b)
+}
+
 // The set of the equations that hold the cell in a row and a column.
 pub fn holders_of(shape: Shape, row: usize, column: usize) -> u64
     requires { ⌜ WellFormed shape × (row < rows shape) × (column < columns shape) ⌝ }

@@ -53,12 +53,12 @@ pub fn holders(shape: Shape, row: usize, column: usize) -> u64
 {
     let p = shape.p;
     if row == p - 1 {
-        return crate::named(shape, p + column, p + column);
+        return crate::pair(shape, p + column, p + column);
     }
     if row == p - 2 {
-        return crate::named(shape, column, column);
+        return crate::pair(shape, column, column);
     }
-    crate::named(
+    crate::pair(
         shape,
         crate::turned(column, p - 2 - row, p),
         p + crate::turned(column, row + 2, p),

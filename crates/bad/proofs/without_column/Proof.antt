@@ -7,7 +7,7 @@ use Rattle.codes.specs.Shape.{cells, cellNumber}
 use Rattle.codes.proofs.Shapes.{small-equations}
 use Rattle.codes.proofs.Positions.{cell-inside}
 use Rattle.bad.specs.Candidate.{Without}
-use Rattle.bad.proofs.Rests.{held-not-none, held-lowest, without-none, without-more, without-all}
+use Rattle.bad.proofs.Rests.{added-first, held-not-none, held-lowest, without-none, without-more, without-all}
 use borrow.Author.Needs.{needs}
 use Rattle.bad.proofs.without_column.Statement.{statement}
 use Rattle.bad.proofs.without_column.Tie as tie
@@ -44,8 +44,21 @@ cast-first c = search needs
 array-read-x : tie.Need-array-read-x Inv-loop μ-loop
 array-read-x c = c .lowest-bit .ensures .0
 
+array-read-rest : tie.Need-array-read-rest Inv-loop μ-loop
+array-read-rest c = c .lowest-bit .ensures .0
+
+array-write-rest : tie.Need-array-write-rest Inv-loop μ-loop
+array-write-rest c = c .lowest-bit .ensures .0
+
+sub-add-to : tie.Need-sub-add-to Inv-loop μ-loop
+sub-add-to c =
+    let held = c .before .before in
+    let start = held .before .before .before .before in
+    let some = held-not-none (start .args .shape) (start .pre .0) _ _ (inside held) (held .holders-of .ensures) in
+    omega (arith, some)
+
 add-to-requires : tie.Need-add-to-requires Inv-loop μ-loop
-add-to-requires c κs = c .before .before .before .before .loop .inv .1
+add-to-requires c κs = search needs
 
 add-i : tie.Need-add-i Inv-loop μ-loop
 add-i c = search needs
@@ -63,7 +76,8 @@ loop-again c =
       omega arith,
       c .add-to .ensures .long,
       without-more s (start .args .t2) (start .args .column) (turn .i) _ _ _ (turn .rest) _ (omega (arith, small-equations s (start .pre .0))) (turn .inv .2) (held .holders-of .ensures)
-          (held-lowest s (start .pre .0) _ _ (inside held) (held .holders-of .ensures) _ (low .lowest-bit .ensures .0) (low .lowest-bit .ensures .1)) refl (c .add-to .ensures),
+          (held-lowest s (start .pre .0) _ _ (inside held) (held .holders-of .ensures) _ (low .lowest-bit .ensures .0) (low .lowest-bit .ensures .1)) refl
+          (added-first (turn .rest) _ _ _ _ (low .lowest-bit .ensures .0) (low .lowest-bit .ensures .1) (turn .inv .1) (c .add-to .ensures)),
     )
 
 returns : tie.Need-returns Inv-loop μ-loop
@@ -81,6 +95,9 @@ without-column-spec =
     lowest-bit-requires
     cast-first
     array-read-x
+    array-read-rest
+    array-write-rest
+    sub-add-to
     add-to-requires
     add-i
     loop-less
