@@ -15,7 +15,15 @@ use Rattle.codes.proofs.Lines.{rdp-rows, rdp-columns}
 use Rattle.codes.proofs.Geometry.{column-there, column-lies, place-at, place-down}
 use Rattle.plan.specs.Plan.{diagonal}
 use Rattle.plan.proofs.Diagonals.{home}
-use Rattle.spare.specs.Places.{starts, leader, inSlot, OnDiagonal, meets}
+use Rattle.spare.specs.Places.{starts, leader, inSlot}
+
+-- row i of column k is on a diagonal that is not the missing one
+abbrev pub OnDiagonal : Shape → ℕ → ℕ → Type 0
+OnDiagonal s k i = (i < rows s) × (diagonal s k i < rows s)
+
+-- the row in which that diagonal meets the column that leads; p-1 where it does not
+abbrev pub meets : Shape → ℕ → ℕ → ℕ
+meets s k i = (diagonal s k i + (s .p - leader s)) % s .p
 
 module _ (s : Shape) (w : WellFormed s) (rdp : s .code ≡ 1) where
   some : 0 < s .p
@@ -92,17 +100,15 @@ module _ (s : Shape) (w : WellFormed s) (rdp : s .code ≡ 1) where
 
   -- as the code works it out
   pub meets-is : (k i d lead row : ℕ) → d ≡ diagonal s k i → lead ≡ leader s → row ≡ (d + (s .p - lead)) % s .p → row ≡ meets s k i
-  unfolding meets
   meets-is k i d lead row ed el e = e ∙ ap₂ (λ (x y : ℕ). (x + (s .p - y)) % s .p) ed el
 
   module _ (k i row : ℕ) (on : OnDiagonal s k i) (e : row ≡ meets s k i) where
     pub row-low : row < s .p
-    unfolding meets
     row-low = omega (arith, e, mod-lt (diagonal s k i + (s .p - leader s)) some)
 
     -- its parity cell starts as many cells or more into the stripe
     pub parity-far : row * s .cell ≤ place s (cellNumber s (diagonal s k i) (s .p))
-    unfolding meets leader
+    unfolding leader
     parity-far =
         by-equal (columnOf s 0) (s .p)
         (λ z. let none : leader s ≡ 0 = ap (λ (x : ℕ). x % s .p) z ∙ mod-self (s .p) in

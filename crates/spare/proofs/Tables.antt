@@ -16,48 +16,17 @@ use Rattle.codes.proofs.Lines.{rdp-rows}
 use Rattle.plan.specs.Plan.{diagonal}
 use Rattle.plan.specs.Right.{RdpColumn}
 use Rattle.plan.proofs.Diagonals.{home, home-back, diagonal-turned}
-use Rattle.spare.specs.Places.{starts, LevelPlaces, leader, inSlot, ColumnPut, SlantPlaces, OnDiagonal, meets, Aimed}
-use Rattle.spare.proofs.Leads.{slot-low, slot-column, row-low, parity-far}
+use Rattle.spare.specs.Places.{starts, LevelPlaces, leader, inSlot, ColumnPut, SlantPlaces}
+use Rattle.spare.proofs.Leads.{OnDiagonal, meets, slot-low, slot-column, parity-far}
 
 -- so many cells are a small number of bytes
 pub step-small : (s : Shape) → WellFormed s → (n : ℕ) → n ≤ 31 → n * s .cell ≤ 126976
 step-small s w n l = mul-le-mul l (w .cellHigh)
 
--- ---- by row
-
--- the first j columns have their place
-pub record LevelFilled (s : Shape) (j : ℕ) (places : List ℕ) : Type 0 where
-  pub long : length places ≡ 32
-  pub column : (m : ℕ) → m < j → getD places m 0 ≡ starts s m
-
-module _ (s : Shape) where
-  pub level-none : (places : List ℕ) → length places ≡ 32 → LevelFilled s 0 places
-  level-none places long = record { long = long; column = λ m l. absurd (omega arith) }
-
-  pub level-more : (at j : ℕ) (places : List ℕ) → j < 32 → at ≡ starts s j → LevelFilled s j places → LevelFilled s (j + 1) (set places j at)
-  level-more at j places lj e h = record {
-    long = length-set places j at ∙ h .long;
-    column = λ m l. by-equal m j
-        (λ z. ap (λ (x : ℕ). getD (set places j at) x 0) z ∙ getD-set-same places j at 0 (omega (arith, h .long)) ∙ e ∙ ap (starts s) (sym z))
-        (λ n. getD-set-other places j m at 0 n ∙ h .column m (omega arith));
-  }
-
-  module _ (k j : ℕ) (places : List ℕ) (all : s .p - 1 ≤ j) (h : LevelFilled s j places) where
-    -- the row parity column is lost, or no column that rows sum
-    pub level-kept : s .p - 1 ≤ k → LevelPlaces s k places
-    level-kept lk = record { long = h .long; other = λ m lm n. h .column m (omega arith); parity = λ l. absurd (omega arith) }
-
-    pub level-swapped : (at : ℕ) → k < 32 → at ≡ starts s (s .p - 1) → LevelPlaces s k (set places k at)
-    level-swapped at lk e = record {
-      long = length-set places k at ∙ h .long;
-      other = λ m lm n. getD-set-other places k m at 0 n ∙ h .column m (omega arith);
-      parity = λ l. getD-set-same places k at 0 (omega (arith, h .long)) ∙ e;
-    }
-
 -- ---- by diagonal
 
 -- both slots of a column set
-pub column-put : (p t above below : ℕ) (places : List ℕ) → p < 32 → t < p → length places ≡ 64
+pub column-put : (p t above below : ℕ) (places : List ℕ) → p < 32 → t < p → length places ≡ 96
     → ColumnPut p t above below places (set (set places (p - 1 - t) above) (p - 1 - t + p) below)
 column-put p t above below places lp lt long = record {
   long = length-set (set places (p - 1 - t) above) (p - 1 - t + p) below ∙ length-set places (p - 1 - t) above;
@@ -74,13 +43,13 @@ column-put p t above below places lp lt long = record {
 
 -- the first t columns from the one that leads on have their places, and the next column's are less `back` bytes
 pub record SlantFilled (s : Shape) (back t : ℕ) (places : List ℕ) : Type 0 where
-  pub long : length places ≡ 64
+  pub long : length places ≡ 96
   pub next : back ≡ t * s .cell
   pub above : (m : ℕ) → m < t → getD places (s .p - 1 - m) 0 + m * s .cell ≡ starts s ((m + leader s) % s .p)
   pub below : (m : ℕ) → m < t → getD places (s .p - 1 - m + s .p) 0 + m * s .cell ≡ starts s ((m + leader s) % s .p) + s .p * s .cell
 
 module _ (s : Shape) where
-  pub slant-none : (places : List ℕ) → length places ≡ 64 → SlantFilled s 0 0 places
+  pub slant-none : (places : List ℕ) → length places ≡ 96 → SlantFilled s 0 0 places
   slant-none places long = record { long = long; next = sym (zero-mul (s .cell)); above = λ m l. absurd (omega arith); below = λ m l. absurd (omega arith) }
 
   pub slant-more : (back t at : ℕ) (places places′ : List ℕ) → t < s .p → SlantFilled s back t places → at ≡ starts s ((t + leader s) % s .p) → back ≤ at
@@ -131,25 +100,95 @@ module _ (s : Shape) (k : ℕ) (of : RdpColumn s k) where
   pub slots-but : (places : List ℕ) → SlantPlaces s (s .p) places → SlantPlaces s k places
   slots-but places h = record { long = h .long; slot = λ x l n. h .slot x l (λ e. omega (arith, slot-low s (of .formed) (of .rdp) x)) }
 
-  module _ (i row : ℕ) (on : OnDiagonal s k i) (e : row ≡ meets s k i) (places : List ℕ) (h : SlantPlaces s k places) where
-    -- the parity cell's place in its slot
-    pub aimed : (at : ℕ) → k < s .p → at ≡ place s (cellNumber s (diagonal s k i) (s .p)) → Aimed s k i row (set places (s .p - 1 - row + i) (at - row * s .cell))
-    unfolding meets
-    aimed at lk z = record {
-      row = e;
-      listed = record {
-        long = length-set places (s .p - 1 - row + i) (at - row * s .cell) ∙ h .long;
-        slot = λ x l n. ap (λ (y : ℕ). y + (s .p - 1) * s .cell) (getD-set-other places (s .p - 1 - row + i) x (at - row * s .cell) 0 (λ here. n (ap (inSlot s) here ∙ own))) ∙ h .slot x l n;
-      };
-      parity = λ _. omega (arith, getD-set-same places (s .p - 1 - row + i) (at - row * s .cell) 0 (omega (arith, h .long, high s w, on .0, rdp-rows s w (of .rdp))), z, parity-far s w (of .rdp) k i row on e);
-    }
-      where
-        w : WellFormed s
-        w = of .formed
+-- ---- by row
 
-        own : inSlot s (s .p - 1 - row + i) ≡ k
-        own = slot-column s w (of .rdp) (diagonal s k i) row i e (omega (arith, on .0, rdp-rows s w (of .rdp))) ∙ ap (home s i) (diagonal-turned s k i lk (omega (arith, on .0, rdp-rows s w (of .rdp)))) ∙ home-back s i k (omega (arith, on .0, rdp-rows s w (of .rdp))) lk
+-- the first j columns have their place, and the places of diagonals are as they were
+pub record LevelFilled (s : Shape) (k j : ℕ) (places : List ℕ) : Type 0 where
+  pub slant : SlantPlaces s k places
+  pub column : (m : ℕ) → m < j → getD places (64 + m) 0 ≡ starts s m
 
-    -- the diagonal parity column is lost
-    pub aimed-last : s .p ≤ k → Aimed s k i row places
-    aimed-last lk = record { row = e; listed = h; parity = λ l. absurd (omega arith) }
+module _ (s : Shape) (w : WellFormed s) (k : ℕ) where
+  -- what is set from slot 64 on is no diagonal's
+  kept : (x at : ℕ) (places : List ℕ) → SlantPlaces s k places → SlantPlaces s k (set places (64 + x) at)
+  kept x at places h = record {
+    long = length-set places (64 + x) at ∙ h .long;
+    slot = λ y l n. ap (λ (v : ℕ). v + (s .p - 1) * s .cell) (getD-set-other places (64 + x) y at 0 (λ e. omega (arith, high s w))) ∙ h .slot y l n;
+  }
+
+  here : (x at : ℕ) (places : List ℕ) → x < 32 → SlantPlaces s k places → getD (set places (64 + x) at) (64 + x) 0 ≡ at
+  here x at places l h = getD-set-same places (64 + x) at 0 (omega (arith, h .long))
+
+  off : (x m at : ℕ) (places : List ℕ) → m ≢ x → getD (set places (64 + x) at) (64 + m) 0 ≡ getD places (64 + m) 0
+  off x m at places n = getD-set-other places (64 + x) (64 + m) at 0 (λ e. n (omega arith))
+
+  pub level-none : (places : List ℕ) → SlantPlaces s k places → LevelFilled s k 0 places
+  level-none places h = record { slant = h; column = λ m l. absurd (omega arith) }
+
+  pub level-more : (at j : ℕ) (places : List ℕ) → j < 32 → at ≡ starts s j → LevelFilled s k j places → LevelFilled s k (j + 1) (set places (64 + j) at)
+  level-more at j places lj e h = record {
+    slant = kept j at places (h .slant);
+    column = λ m l. by-equal m j
+        (λ z. ap (λ (x : ℕ). getD (set places (64 + j) at) (64 + x) 0) z ∙ here j at places lj (h .slant) ∙ e ∙ ap (starts s) (sym z))
+        (λ n. off j m at places n ∙ h .column m (omega arith));
+  }
+
+  module _ (j : ℕ) (places : List ℕ) (all : s .p - 1 ≤ j) (h : LevelFilled s k j places) where
+    -- the row parity column is lost, or no column that rows sum
+    pub level-kept : s .p - 1 ≤ k → LevelPlaces s k places × SlantPlaces s k places
+    level-kept lk = (record { other = λ m lm n. h .column m (omega arith); parity = λ l. absurd (omega arith) }, h .slant)
+
+    pub level-swapped : (at : ℕ) → k < 32 → at ≡ starts s (s .p - 1) → LevelPlaces s k (set places (64 + k) at) × SlantPlaces s k (set places (64 + k) at)
+    level-swapped at lk e = (
+      record { other = λ m lm n. off k m at places n ∙ h .column m (omega arith); parity = λ l. here k at places lk (h .slant) ∙ e },
+      kept k at places (h .slant),
+    )
+
+-- ---- the parity cell of a row's diagonal
+
+-- the diagonal of row i of column k meets the column that leads in row r, and its parity cell's place, less r cells, is in the slot that has the row's
+pub record Swapped (s : Shape) (k i r : ℕ) (places : List ℕ) : Type 0 where
+  pub row : r ≡ meets s k i
+  pub level : LevelPlaces s k places
+  pub slant : SlantPlaces s k places
+  pub parity : k < s .p → getD places (s .p - 1 - r + i) 0 + r * s .cell ≡ place s (cellNumber s (diagonal s k i) (s .p))
+
+module _ (s : Shape) (k : ℕ) (of : RdpColumn s k) (i r : ℕ) (on : OnDiagonal s k i) (e : r ≡ meets s k i) (places : List ℕ) (level : LevelPlaces s k places) (slant : SlantPlaces s k places) where
+  w : WellFormed s
+  w = of .formed
+
+  li : i < s .p - 1
+  li = omega (arith, on .0, rdp-rows s w (of .rdp))
+
+  x : ℕ
+  x = s .p - 1 - r + i
+
+  x-low : x < 62
+  unfolding x
+  x-low = omega (arith, li, high s w)
+
+  own : k < s .p → inSlot s x ≡ k
+  unfolding x
+  own lk = slot-column s w (of .rdp) (diagonal s k i) r i e (omega (arith, li)) ∙ ap (home s i) (diagonal-turned s k i lk (omega (arith, li))) ∙ home-back s i k (omega (arith, li)) lk
+
+  -- the parity cell's place in its slot
+  pub swapped : (at : ℕ) → k < s .p → at ≡ place s (cellNumber s (diagonal s k i) (s .p)) → Swapped s k i r (set places (s .p - 1 - r + i) (at - r * s .cell))
+  unfolding x
+  swapped at lk z = record {
+    row = e;
+    level = record {
+      other = λ j l n. getD-set-other places x (64 + j) v 0 (λ here. omega (arith, x-low)) ∙ level .other j l n;
+      parity = λ l. getD-set-other places x (64 + k) v 0 (λ here. omega (arith, x-low)) ∙ level .parity l;
+    };
+    slant = record {
+      long = length-set places x v ∙ slant .long;
+      slot = λ y l n. ap (λ (u : ℕ). u + (s .p - 1) * s .cell) (getD-set-other places x y v 0 (λ here. n (ap (inSlot s) here ∙ own lk))) ∙ slant .slot y l n;
+    };
+    parity = λ _. omega (arith, getD-set-same places x v 0 (omega (arith, x-low, slant .long)), z, parity-far s w (of .rdp) k i r on e);
+  }
+    where
+      v : ℕ
+      v = at - r * s .cell
+
+  -- the diagonal parity column is lost
+  pub not-swapped : s .p ≤ k → Swapped s k i r places
+  not-swapped lk = record { row = e; level = level; slant = slant; parity = λ l. absurd (omega arith) }
