@@ -17,6 +17,10 @@ use Rattle.plan.specs.Plan.{diagonal}
 use Rattle.plan.proofs.Diagonals.{home}
 use Rattle.spare.specs.Places.{starts, leader, inSlot}
 
+-- the column that is t columns past the one that leads, from column p-1 back to 0
+abbrev pub past : Shape → ℕ → ℕ
+past s t = (t + leader s) % s .p
+
 -- row i of column k is on a diagonal that is not the missing one
 abbrev pub OnDiagonal : Shape → ℕ → ℕ → Type 0
 OnDiagonal s k i = (i < rows s) × (diagonal s k i < rows s)
@@ -58,7 +62,7 @@ module _ (s : Shape) (w : WellFormed s) (rdp : s .code ≡ 1) where
   rows-long t l = mul-le-mul-right (s .cell) (omega (arith, rdp-rows s w rdp))
 
   -- the column t past the one that leads starts t cells or more into the stripe
-  pub past-far : (t : ℕ) → t < s .p → t * s .cell ≤ starts s ((t + leader s) % s .p)
+  pub past-far : (t : ℕ) → t < s .p → t * s .cell ≤ starts s (past s t)
   unfolding leader
   past-far t l =
       by-equal t 0 (λ z. omega (arith, ap (λ (x : ℕ). x * s .cell) z, zero-mul (s .cell)))
@@ -78,11 +82,11 @@ module _ (s : Shape) (w : WellFormed s) (rdp : s .code ≡ 1) where
           (λ high. omega (arith, wrapped (s .p) (t + leader s) high (omega (arith, low-j))))
 
   -- as the code works it out
-  pub past-is : (t lead j at : ℕ) → lead ≡ leader s → j ≡ (t + lead) % s .p → at ≡ starts s j → at ≡ starts s ((t + leader s) % s .p)
-  past-is t lead j at el ej e = e ∙ ap (starts s) (ej ∙ ap (λ (x : ℕ). (t + x) % s .p) el)
+  pub past-is : (t lead j : ℕ) → lead ≡ leader s → j ≡ (t + lead) % s .p → j ≡ past s t
+  past-is t lead j el ej = ej ∙ ap (λ (x : ℕ). (t + x) % s .p) el
 
-  pub past-low : (t lead j : ℕ) → j ≡ (t + lead) % s .p → j < columns s
-  past-low t lead j e = omega (arith, e, mod-lt (t + lead) some, rdp-columns s w rdp)
+  pub past-low : (t j : ℕ) → j ≡ past s t → j < s .p
+  past-low t j e = omega (arith, e, mod-lt (t + leader s) some)
 
   -- ---- a diagonal, by the row in which it meets the column that leads
 

@@ -1,9 +1,10 @@
--- How the places are listed from which rows are rebuilt: once for all rows, as if each were row 0, or on a diagonal that meets the column that leads in row 0.
+-- How the places are listed from which rows are rebuilt: once for all rows, as if each were row 0, or on a diagonal that meets the column that leads in row 0;
+-- and how the parity cell's place is put in for the lost cell's.
 use mathlib.Core.Path.{_≡_, refl, sym, ap, _∙_, subst}
 use mathlib.Core.Logic.{_≢_}
 use mathlib.Core.List.{List}
 use Prim.Native.Nat.{ℕ, _+_, _-_, _*_, _%_, _≤_, _<_}
-use native.Mathlib.Nat.{mul-le-mul, add-mul, zero-mul, one-mul, add-mod-right}
+use native.Mathlib.Nat.{mul-le-mul, add-mul, zero-mul, one-mul, mod-lt, add-mod-right}
 use native.Mathlib.Omega.{arith}
 use lib.ListN.{length, getD, set, length-set}
 use lib.Seq.{getD-set-same, getD-set-other}
@@ -12,18 +13,17 @@ use Rattle.codes.specs.declared.Shape.{Shape}
 use Rattle.codes.specs.Shape.{rows, cellNumber, WellFormed}
 use Rattle.codes.specs.Geometry.{place}
 use Rattle.codes.proofs.Shapes.{high}
+use Rattle.codes.proofs.Residues.{there-and-back}
 use Rattle.codes.proofs.Lines.{rdp-rows}
 use Rattle.plan.specs.Plan.{diagonal}
 use Rattle.plan.specs.Right.{RdpColumn}
 use Rattle.plan.proofs.Diagonals.{home, home-back, diagonal-turned}
 use Rattle.spare.specs.Places.{starts, LevelPlaces, leader, inSlot, ColumnPut, SlantPlaces}
-use Rattle.spare.proofs.Leads.{OnDiagonal, meets, slot-low, slot-column, parity-far}
+use Rattle.spare.proofs.Leads.{past, OnDiagonal, meets, leader-low, slot-low, slot-column, parity-far}
 
 -- so many cells are a small number of bytes
 pub step-small : (s : Shape) → WellFormed s → (n : ℕ) → n ≤ 31 → n * s .cell ≤ 126976
 step-small s w n l = mul-le-mul l (w .cellHigh)
-
--- ---- by diagonal
 
 -- both slots of a column set
 pub column-put : (p t above below : ℕ) (places : List ℕ) → p < 32 → t < p → length places ≡ 96
@@ -32,6 +32,7 @@ column-put p t above below places lp lt long = record {
   long = length-set (set places (p - 1 - t) above) (p - 1 - t + p) below ∙ length-set places (p - 1 - t) above;
   first = off (p - 1 - t) (λ e. omega arith) ∙ getD-set-same places (p - 1 - t) above 0 (omega arith);
   second = getD-set-same (set places (p - 1 - t) above) (p - 1 - t + p) below 0 (omega (arith, length-set places (p - 1 - t) above));
+  beyond = λ x l. both x (λ e. omega arith) (λ e. omega arith);
   kept = λ m lm n. (both (p - 1 - m) (λ e. omega arith) (λ e. n (omega arith)), both (p - 1 - m + p) (λ e. n (omega arith)) (λ e. omega arith));
 }
   where
@@ -42,34 +43,62 @@ column-put p t above below places lp lt long = record {
     both x n n′ = off x n ∙ getD-set-other places (p - 1 - t) x above 0 n′
 
 -- the first t columns from the one that leads on have their places, and the next column's are less `back` bytes
-pub record SlantFilled (s : Shape) (back t : ℕ) (places : List ℕ) : Type 0 where
+pub record Filled (s : Shape) (back t : ℕ) (places : List ℕ) : Type 0 where
   pub long : length places ≡ 96
   pub next : back ≡ t * s .cell
-  pub above : (m : ℕ) → m < t → getD places (s .p - 1 - m) 0 + m * s .cell ≡ starts s ((m + leader s) % s .p)
-  pub below : (m : ℕ) → m < t → getD places (s .p - 1 - m + s .p) 0 + m * s .cell ≡ starts s ((m + leader s) % s .p) + s .p * s .cell
+  pub level : (m : ℕ) → m < t → getD places (64 + past s m) 0 ≡ starts s (past s m)
+  pub above : (m : ℕ) → m < t → getD places (s .p - 1 - m) 0 + m * s .cell ≡ starts s (past s m)
+  pub below : (m : ℕ) → m < t → getD places (s .p - 1 - m + s .p) 0 + m * s .cell ≡ starts s (past s m) + s .p * s .cell
 
-module _ (s : Shape) where
-  pub slant-none : (places : List ℕ) → length places ≡ 96 → SlantFilled s 0 0 places
-  slant-none places long = record { long = long; next = sym (zero-mul (s .cell)); above = λ m l. absurd (omega arith); below = λ m l. absurd (omega arith) }
-
-  pub slant-more : (back t at : ℕ) (places places′ : List ℕ) → t < s .p → SlantFilled s back t places → at ≡ starts s ((t + leader s) % s .p) → back ≤ at
-      → ColumnPut (s .p) t (at - back) (at - back + s .p * s .cell) places places′ → SlantFilled s (back + s .cell) (t + 1) places′
-  slant-more back t at places places′ lt h e fits put = record {
-    long = put .long ∙ h .long;
-    next = omega (arith, h .next, add-mul t 1 (s .cell), one-mul (s .cell));
-    above = λ m l. by-equal m t
-        (λ z. subst (λ (x : ℕ). getD places′ (s .p - 1 - x) 0 + x * s .cell ≡ starts s ((x + leader s) % s .p)) (sym z) (omega (arith, put .first, h .next, e)))
-        (λ n. ap (λ (x : ℕ). x + m * s .cell) (put .kept m (omega arith) n .0) ∙ h .above m (omega arith));
-    below = λ m l. by-equal m t
-        (λ z. subst (λ (x : ℕ). getD places′ (s .p - 1 - x + s .p) 0 + x * s .cell ≡ starts s ((x + leader s) % s .p) + s .p * s .cell) (sym z) (omega (arith, put .second, h .next, e)))
-        (λ n. ap (λ (x : ℕ). x + m * s .cell) (put .kept m (omega arith) n .1) ∙ h .below m (omega arith));
+module _ (s : Shape) (w : WellFormed s) where
+  pub filled-none : (places : List ℕ) → length places ≡ 96 → Filled s 0 0 places
+  filled-none places long = record {
+    long = long;
+    next = sym (zero-mul (s .cell));
+    level = λ m l. absurd (omega arith);
+    above = λ m l. absurd (omega arith);
+    below = λ m l. absurd (omega arith);
   }
 
-  -- all columns have theirs
-  pub slant-all : (back t : ℕ) (places : List ℕ) → s .p ≤ t → SlantFilled s back t places → SlantPlaces s (s .p) places
-  unfolding inSlot
-  slant-all back t places all h = record { long = h .long; slot = λ x l n. by-less x (s .p) (first x) (second x l) }
+  pub filled-more : (back t j start : ℕ) (places mid : List ℕ) → t < s .p → Filled s back t places → j ≡ past s t → j < 32 → start ≡ starts s j → back ≤ start
+      → ColumnPut (s .p) t (start - back) (start - back + s .p * s .cell) places mid → Filled s (back + s .cell) (t + 1) (set mid (64 + j) start)
+  filled-more back t j start places mid lt h ej lj e fits put = record {
+    long = length-set mid (64 + j) start ∙ put .long ∙ h .long;
+    next = omega (arith, h .next, add-mul t 1 (s .cell), one-mul (s .cell));
+    level = λ m l. by-equal (past s m) j
+        (λ z. ap (λ (x : ℕ). getD (set mid (64 + j) start) (64 + x) 0) z ∙ getD-set-same mid (64 + j) start 0 (omega (arith, put .long, h .long)) ∙ e ∙ ap (starts s) (sym z))
+        (λ n. getD-set-other mid (64 + j) (64 + past s m) start 0 (λ z. n (omega arith)) ∙ put .beyond (64 + past s m) (omega arith)
+        ∙ h .level m (by-equal m t (λ z. absurd (n (ap (past s) z ∙ sym ej))) (λ z. omega arith)));
+    above = λ m l. ap (λ (x : ℕ). x + m * s .cell) (low-slot (s .p - 1 - m) (omega (arith, high s w))) ∙ by-equal m t
+        (λ z. subst (λ (x : ℕ). getD mid (s .p - 1 - x) 0 + x * s .cell ≡ starts s (past s x)) (sym z) (omega (arith, put .first, h .next, e, ap (starts s) ej)))
+        (λ n. ap (λ (x : ℕ). x + m * s .cell) (put .kept m (omega arith) n .0) ∙ h .above m (omega arith));
+    below = λ m l. ap (λ (x : ℕ). x + m * s .cell) (low-slot (s .p - 1 - m + s .p) (omega (arith, high s w))) ∙ by-equal m t
+        (λ z. subst (λ (x : ℕ). getD mid (s .p - 1 - x + s .p) 0 + x * s .cell ≡ starts s (past s x) + s .p * s .cell) (sym z) (omega (arith, put .second, h .next, e, ap (starts s) ej)))
+        (λ n. ap (λ (x : ℕ). x + m * s .cell) (put .kept m (omega arith) n .1) ∙ h .below m (omega arith));
+  }
     where
+      low-slot : (x : ℕ) → x < 64 → getD (set mid (64 + j) start) x 0 ≡ getD mid x 0
+      low-slot x l = getD-set-other mid (64 + j) x start 0 (λ z. omega arith)
+
+  -- all columns have theirs
+  pub filled-all : s .code ≡ 1 → (back t : ℕ) (places : List ℕ) → s .p ≤ t → Filled s back t places → LevelPlaces s (s .p) places × SlantPlaces s (s .p) places
+  unfolding inSlot
+  filled-all rdp back t places all h = (
+    record { other = λ j l n. column j l; parity = λ l. absurd (omega arith) },
+    record { long = h .long; slot = λ x l n. by-less x (s .p) (first x) (second x l) },
+  )
+    where
+      -- so many columns past the one that leads
+      at : ℕ → ℕ
+      at j = (j + (s .p - leader s)) % s .p
+
+      column : (j : ℕ) → j < s .p → getD places (64 + j) 0 ≡ starts s j
+      column j l =
+          let lo = leader-low s w rdp in
+          let is : past s (at j) ≡ j = there-and-back (s .p) j (s .p - leader s) (leader s) l (omega arith) in
+          let low-at : at j < s .p = mod-lt (j + (s .p - leader s)) (omega arith) in
+          subst (λ (x : ℕ). getD places (64 + x) 0 ≡ starts s x) is (h .level (at j) (omega arith))
+
       first : (x : ℕ) → x < s .p → getD places x 0 + (s .p - 1) * s .cell ≡ starts s (inSlot s x) + x * s .cell
       first x l =
           let m = s .p - 1 - x in
@@ -95,53 +124,31 @@ module _ (s : Shape) where
             ap (λ (y : ℕ). y * s .cell) (let at : m + x ≡ s .p - 1 + s .p = omega arith in at),
           )
 
-module _ (s : Shape) (k : ℕ) (of : RdpColumn s k) where
-  -- all but column k's slots
-  pub slots-but : (places : List ℕ) → SlantPlaces s (s .p) places → SlantPlaces s k places
-  slots-but places h = record { long = h .long; slot = λ x l n. h .slot x l (λ e. omega (arith, slot-low s (of .formed) (of .rdp) x)) }
+-- ---- the parity cell of a row
 
--- ---- by row
+module _ (s : Shape) (k : ℕ) (of : RdpColumn s k) (places : List ℕ) (level : LevelPlaces s (s .p) places) (slant : SlantPlaces s (s .p) places) where
+  -- all slots but column k's
+  slots-but : SlantPlaces s k places
+  slots-but = record { long = slant .long; slot = λ x l n. slant .slot x l (λ e. omega (arith, slot-low s (of .formed) (of .rdp) x)) }
 
--- the first j columns have their place, and the places of diagonals are as they were
-pub record LevelFilled (s : Shape) (k j : ℕ) (places : List ℕ) : Type 0 where
-  pub slant : SlantPlaces s k places
-  pub column : (m : ℕ) → m < j → getD places (64 + m) 0 ≡ starts s m
+  -- the row parity column is lost, or no column that rows sum
+  pub row-kept : s .p - 1 ≤ k → LevelPlaces s k places × SlantPlaces s k places
+  row-kept lk = (record { other = λ j l n. level .other j l (λ z. omega arith); parity = λ l. absurd (omega arith) }, slots-but)
 
-module _ (s : Shape) (w : WellFormed s) (k : ℕ) where
-  -- what is set from slot 64 on is no diagonal's
-  kept : (x at : ℕ) (places : List ℕ) → SlantPlaces s k places → SlantPlaces s k (set places (64 + x) at)
-  kept x at places h = record {
-    long = length-set places (64 + x) at ∙ h .long;
-    slot = λ y l n. ap (λ (v : ℕ). v + (s .p - 1) * s .cell) (getD-set-other places (64 + x) y at 0 (λ e. omega (arith, high s w))) ∙ h .slot y l n;
-  }
-
-  here : (x at : ℕ) (places : List ℕ) → x < 32 → SlantPlaces s k places → getD (set places (64 + x) at) (64 + x) 0 ≡ at
-  here x at places l h = getD-set-same places (64 + x) at 0 (omega (arith, h .long))
-
-  off : (x m at : ℕ) (places : List ℕ) → m ≢ x → getD (set places (64 + x) at) (64 + m) 0 ≡ getD places (64 + m) 0
-  off x m at places n = getD-set-other places (64 + x) (64 + m) at 0 (λ e. n (omega arith))
-
-  pub level-none : (places : List ℕ) → SlantPlaces s k places → LevelFilled s k 0 places
-  level-none places h = record { slant = h; column = λ m l. absurd (omega arith) }
-
-  pub level-more : (at j : ℕ) (places : List ℕ) → j < 32 → at ≡ starts s j → LevelFilled s k j places → LevelFilled s k (j + 1) (set places (64 + j) at)
-  level-more at j places lj e h = record {
-    slant = kept j at places (h .slant);
-    column = λ m l. by-equal m j
-        (λ z. ap (λ (x : ℕ). getD (set places (64 + j) at) (64 + x) 0) z ∙ here j at places lj (h .slant) ∙ e ∙ ap (starts s) (sym z))
-        (λ n. off j m at places n ∙ h .column m (omega arith));
-  }
-
-  module _ (j : ℕ) (places : List ℕ) (all : s .p - 1 ≤ j) (h : LevelFilled s k j places) where
-    -- the row parity column is lost, or no column that rows sum
-    pub level-kept : s .p - 1 ≤ k → LevelPlaces s k places × SlantPlaces s k places
-    level-kept lk = (record { other = λ m lm n. h .column m (omega arith); parity = λ l. absurd (omega arith) }, h .slant)
-
-    pub level-swapped : (at : ℕ) → k < 32 → at ≡ starts s (s .p - 1) → LevelPlaces s k (set places (64 + k) at) × SlantPlaces s k (set places (64 + k) at)
-    level-swapped at lk e = (
-      record { other = λ m lm n. off k m at places n ∙ h .column m (omega arith); parity = λ l. here k at places lk (h .slant) ∙ e },
-      kept k at places (h .slant),
-    )
+  pub row-swapped : k < s .p - 1 → let new = set places (64 + k) (getD places (64 + (s .p - 1)) 0) in LevelPlaces s k new × SlantPlaces s k new
+  row-swapped lk = (
+    record {
+      other = λ j l n. getD-set-other places (64 + k) (64 + j) at 0 (λ z. n (omega arith)) ∙ level .other j l (λ z. omega arith);
+      parity = λ l. getD-set-same places (64 + k) at 0 (omega (arith, slant .long, high s (of .formed))) ∙ level .other (s .p - 1) (omega arith) (λ z. omega arith);
+    },
+    record {
+      long = length-set places (64 + k) at ∙ slant .long;
+      slot = λ x l n. ap (λ (v : ℕ). v + (s .p - 1) * s .cell) (getD-set-other places (64 + k) x at 0 (λ z. omega (arith, high s (of .formed)))) ∙ slots-but .slot x l n;
+    },
+  )
+    where
+      at : ℕ
+      at = getD places (64 + (s .p - 1)) 0
 
 -- ---- the parity cell of a row's diagonal
 

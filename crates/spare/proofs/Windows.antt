@@ -66,7 +66,7 @@ module _ (s : Shape) (k plan i : ℕ) (right : RowRight s k plan i) where
 
   module _ (taken : bit i plan ≡ false) (places : List ℕ) (fits : 64 + (s .p - 1) ≤ length places) (h : LevelPlaces s k places) where
     row-place : (j : ℕ) → j < s .p - 1 → j ≢ k → getD (part 64 places fits) j 0 + i * s .cell ≡ place s (cellNumber s i j)
-    row-place j l e = slot 64 places fits j (i * s .cell) l ∙ place-down s w i j _ (right .row) (h .other j l e)
+    row-place j l e = slot 64 places fits j (i * s .cell) l ∙ place-down s w i j _ (right .row) (h .other j (omega arith) e)
 
     parity-place : k < s .p - 1 → getD (part 64 places fits) k 0 + i * s .cell ≡ place s (parityCell s i)
     parity-place lk = slot 64 places fits k (i * s .cell) lk ∙ place-down s w i (s .p - 1) _ (right .row) (h .parity lk) ∙ ap (place s) (sym (rdp-first s w (right .of .rdp) i li))

@@ -19,9 +19,9 @@ use Rattle.spare.specs.Run.{others, rebuiltByte}
 abbrev pub starts : Shape → ℕ → ℕ
 starts s j = place s (cellNumber s 0 j)
 
--- slots 64 on have, for each of the first p-1 columns, where it starts; the row parity column's start stands in for column k's
+-- slots 64 on have, for each of the first p columns, where it starts; the row parity column's start stands in for column k's, where rows sum that
 pub record LevelPlaces (s : Shape) (k : ℕ) (places : List ℕ) : Type 0 where
-  pub other : (j : ℕ) → j < s .p - 1 → j ≢ k → getD places (64 + j) 0 ≡ starts s j
+  pub other : (j : ℕ) → j < s .p → j ≢ k → getD places (64 + j) 0 ≡ starts s j
   pub parity : k < s .p - 1 → getD places (64 + k) 0 ≡ starts s (s .p - 1)
 
 -- the column that leads: the one that lies first, or column 0 where that is the diagonal parity column
@@ -32,11 +32,12 @@ leader s = columnOf s 0 % s .p
 unfoldable pub inSlot : Shape → ℕ → ℕ
 inSlot s x = (s .p - 1 + s .p - x + leader s) % s .p
 
--- two slots of a column: places′ are the places with `above` in slot p-1-t and `below` p slots later, and the slots of the other columns kept
+-- two slots of a column: places′ are the places with `above` in slot p-1-t and `below` p slots later, and all other slots kept
 pub record ColumnPut (p t above below : ℕ) (places places′ : List ℕ) : Type 0 where
   pub long : length places′ ≡ length places
   pub first : getD places′ (p - 1 - t) 0 ≡ above
   pub second : getD places′ (p - 1 - t + p) 0 ≡ below
+  pub beyond : (x : ℕ) → 64 ≤ x → getD places′ x 0 ≡ getD places x 0
   pub kept : (m : ℕ) → m < p → m ≢ t → (getD places′ (p - 1 - m) 0 ≡ getD places (p - 1 - m) 0) × (getD places′ (p - 1 - m + p) 0 ≡ getD places (p - 1 - m + p) 0)
 
 -- slot x has where its column starts, and x cells more, all less p-1 cells; but for column k's slots

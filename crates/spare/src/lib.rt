@@ -139,38 +139,36 @@ fn put_column(places: &mut [usize; SLOTS], p: usize, t: usize, above: usize, bel
     places[slot + p] = below;
 }
 
-// Fills in where the cells of a diagonal start, as if it met the column that leads in row 0: those of the first p columns. A diagonal that meets
-// it in row r then has its cells, row after row, from slot p - 1 - r on, each r cells further on.
-fn diagonal_places(shape: Shape, lead: usize, places: &mut [usize; SLOTS])
+// Lists where the cells start from which rows are rebuilt: by its row, as if it were row 0, each of the first p columns has its own place; by its
+// diagonal, as if that met the column that leads in row 0. A diagonal that meets it in row r then has its cells, row after row, from slot
+// p - 1 - r on, each r cells further on.
+fn list_places(shape: Shape, lead: usize, places: &mut [usize; SLOTS])
     requires { ⌜ WellFormed shape × (shape .code ≡ 1) × (lead ≡ leader shape) × (length (now places) ≡ 96) ⌝ }
-    ensures { λ _. ⌜ SlantPlaces shape (shape .p) (now (places .exit)) ⌝ }
+    ensures { λ _. ⌜ LevelPlaces shape (shape .p) (now (places .exit)) × SlantPlaces shape (shape .p) (now (places .exit)) ⌝ }
 {
     let p = shape.p;
     let turn = p * shape.cell;
     let mut back = 0;
     let mut t = 0;
     while t < p {
-        let at = codes::column_place(shape, codes::turned(t, lead, p)) - back;
-        put_column(places, p, t, at, at + turn);
+        let column = codes::turned(t, lead, p);
+        let start = codes::column_place(shape, column);
+        let above = start - back;
+        put_column(places, p, t, above, above + turn);
+        places[LEVEL + column] = start;
         back += shape.cell;
         t += 1;
     }
 }
 
-// Fills in where the cells start from which a row of column k is rebuilt by its row, as if the row were row 0: those in row 0 of the
-// first p - 1 columns. The parity cell's place stands in for column k's.
-fn row_places(shape: Shape, k: usize, places: &mut [usize; SLOTS])
-    requires { ⌜ RdpColumn shape k × SlantPlaces shape k (now places) ⌝ }
+// Puts the place of a row's parity cell in for that of column k's cell, where rows sum that.
+fn swap_row_parity(shape: Shape, k: usize, places: &mut [usize; SLOTS])
+    requires { ⌜ RdpColumn shape k × LevelPlaces shape (shape .p) (now places) × SlantPlaces shape (shape .p) (now places) ⌝ }
     ensures { λ _. ⌜ LevelPlaces shape k (now (places .exit)) × SlantPlaces shape k (now (places .exit)) ⌝ }
 {
     let n = shape.p - 1;
-    let mut j = 0;
-    while j < n {
-        places[LEVEL + j] = codes::column_place(shape, j);
-        j += 1;
-    }
     if k < n {
-        places[LEVEL + k] = codes::column_place(shape, n);
+        places[LEVEL + k] = places[LEVEL + n];
     }
 }
 
@@ -232,8 +230,8 @@ fn run_rows(
 {
     let mut places = [0usize; SLOTS];
     let lead = leading(shape);
-    diagonal_places(shape, lead, &mut places);
-    row_places(shape, k, &mut places);
+    list_places(shape, lead, &mut places);
+    swap_row_parity(shape, k, &mut places);
     let cell = shape.cell;
     let end = first + n;
     let mut i = first;

@@ -9,7 +9,6 @@ use Rattle.codes.proofs.Shapes.{rows-high}
 use Rattle.spare.specs.Places.{LevelPlaces, SlantPlaces}
 use Rattle.spare.specs.Run.{RowsRebuilt}
 use Rattle.spare.proofs.Column.{row-ends, row-small}
-use Rattle.spare.proofs.Tables.{slots-but}
 use Rattle.spare.proofs.Parts.{below, part-long, rows-none, rows-more, rows-end}
 use Rattle.spare.proofs.run_rows.Statement.{statement}
 use Rattle.spare.proofs.run_rows.Tie as tie
@@ -24,18 +23,18 @@ abbrev μ-loop : tie.MeasureT-loop
 leading-requires : tie.Need-leading-requires Inv-loop μ-loop
 leading-requires c κs = let of = c .before .before .pre .0 .buffers .of in (of .formed, of .rdp)
 
-diagonal-places-requires : tie.Need-diagonal-places-requires Inv-loop μ-loop
-diagonal-places-requires c κs = let of = c .before .before .before .before .pre .0 .buffers .of in (of .formed, of .rdp, c .before .leading .ensures, refl)
+list-places-requires : tie.Need-list-places-requires Inv-loop μ-loop
+list-places-requires c κs = let of = c .before .before .before .before .pre .0 .buffers .of in (of .formed, of .rdp, c .before .leading .ensures, refl)
 
-row-places-requires : tie.Need-row-places-requires Inv-loop μ-loop
-row-places-requires c κs = let of = c .before .before .before .before .before .before .pre .0 .buffers .of in (of, slots-but _ _ of _ (c .before .diagonal-places .ensures))
+swap-row-parity-requires : tie.Need-swap-row-parity-requires Inv-loop μ-loop
+swap-row-parity-requires c κs = let of = c .before .before .before .before .before .before .pre .0 .buffers .of in (of, c .before .list-places .ensures .0, c .before .list-places .ensures .1)
 
 add-end : tie.Need-add-end Inv-loop μ-loop
 add-end c = let start = c .before .before .before .before .before .before .before in omega (arith, start .pre .1, rows-high (start .args .shape) (start .pre .0 .buffers .of .formed))
 
 loop-holds : tie.Need-loop-holds Inv-loop μ-loop
 loop-holds c =
-    let listed = c .row-places .ensures in
+    let listed = c .swap-row-parity .ensures in
     (omega arith, omega arith, listed .0, listed .1, rows-none _ (c .before .before .before .before .before .before .before .pre .0 .buffers .of .formed) _ _ _ _ _)
 
 -- a row that the loop comes to is one of the column's
@@ -116,8 +115,8 @@ run-rows-spec =
     Inv-loop
     μ-loop
     leading-requires
-    diagonal-places-requires
-    row-places-requires
+    list-places-requires
+    swap-row-parity-requires
     add-end
     loop-holds
     mul-at
