@@ -7,7 +7,7 @@ use native.Mathlib.Nat.{mod-lt, mod-eq-of-lt, mod-add-mod, add-mod-right, mul-le
 use native.Mathlib.Omega.{arith}
 use Rattle.xor.proofs.Cases.{by-equal, by-less}
 use Rattle.codes.specs.declared.Shape.{Shape}
-use Rattle.codes.specs.Shape.{rows, columns, cellNumber, WellFormed}
+use Rattle.codes.specs.Shape.{rows, cellNumber, WellFormed}
 use Rattle.codes.specs.Geometry.{columnOf, liesAt, place}
 use Rattle.codes.proofs.Shapes.{low, rows-low}
 use Rattle.codes.proofs.Residues.{wrapped}

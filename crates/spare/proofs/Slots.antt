@@ -9,12 +9,12 @@ use lib.Dec.{eqb}
 use lib.ListN.{length, getD}
 use borrow.Author.Tests.{eq-eqb, ne-eqb}
 use Rattle.xor.specs.Xor.{_⊕_, xors}
-use Rattle.xor.specs.Runs.{sumAt, Inside}
+use Rattle.xor.specs.Runs.{sumAt}
 use Rattle.xor.proofs.Cases.{by-equal}
 use Rattle.xor.proofs.Algebra.{⊕-zero, ⊕-comm, ⊕-assoc, ⊕-self, ⊕-cancel, equal-⊕}
 use Rattle.xor.proofs.Sums.{xors-same, xors-one, xors-plus, set-apart}
 use Rattle.codes.specs.declared.Shape.{Shape}
-use Rattle.codes.specs.Shape.{cells, equations, stripeLength, WellFormed}
+use Rattle.codes.specs.Shape.{cells, equations, WellFormed}
 use Rattle.codes.specs.Geometry.{place}
 use Rattle.codes.specs.Encoded.{parityCell, byteAt, sumOver, total}
 use Rattle.codes.specs.Holders.{holds}

@@ -1,6 +1,6 @@
 -- How the places are listed from which rows are rebuilt: once for all rows, as if each were row 0, or on a diagonal that meets the column that leads in row 0;
 -- and how the parity cell's place is put in for the lost cell's.
-use mathlib.Core.Path.{_≡_, refl, sym, ap, _∙_, subst}
+use mathlib.Core.Path.{_≡_, sym, ap, _∙_, subst}
 use mathlib.Core.Logic.{_≢_}
 use mathlib.Core.List.{List}
 use Prim.Native.Nat.{ℕ, _+_, _-_, _*_, _%_, _≤_, _<_}
@@ -10,7 +10,7 @@ use lib.ListN.{length, getD, set, length-set}
 use lib.Seq.{getD-set-same, getD-set-other}
 use Rattle.xor.proofs.Cases.{by-equal, by-less}
 use Rattle.codes.specs.declared.Shape.{Shape}
-use Rattle.codes.specs.Shape.{rows, cellNumber, WellFormed}
+use Rattle.codes.specs.Shape.{cellNumber, WellFormed}
 use Rattle.codes.specs.Geometry.{place}
 use Rattle.codes.proofs.Shapes.{high}
 use Rattle.codes.proofs.Residues.{there-and-back}

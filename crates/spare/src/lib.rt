@@ -2,7 +2,6 @@
 // Each call takes any numbers and any bytes: what can't be done is refused by its number, with every byte as it was. Callers number columns as
 // they lie in the stripe; past the refusals column k is as the equations number it.
 ghost use mathlib.Core.Path.{_≡_};
-ghost use mathlib.Core.List.{_∷_};
 ghost use Prim.Native.Nat.{_+_, _-_, _*_, _≤_, _<_, min};
 ghost use lib.ListN.{length};
 ghost use Rattle.codes.specs.Shape.{rows, WellFormed};
