@@ -138,9 +138,8 @@ fn put_column(places: &mut [usize; SLOTS], p: usize, t: usize, above: usize, bel
     places[slot + p] = below;
 }
 
-// Lists where the cells start from which rows are rebuilt: by its row, as if it were row 0, each of the first p columns has its own place; by its
-// diagonal, as if that met the column that leads in row 0. A diagonal that meets it in row r then has its cells, row after row, from slot
-// p - 1 - r on, each r cells further on.
+// Lists where the first p columns start, for rows, and where the cells of a diagonal do that meets the column that leads in row 0: one that meets it
+// in row r has its own, row after row, from slot p - 1 - r on, each r cells further on.
 fn list_places(shape: Shape, lead: usize, places: &mut [usize; SLOTS])
     requires { ⌜ WellFormed shape × (shape .code ≡ 1) × (lead ≡ leader shape) × (length (now places) ≡ 96) ⌝ }
     ensures { λ _. ⌜ LevelPlaces shape (shape .p) (now (places .exit)) × SlantPlaces shape (shape .p) (now (places .exit)) ⌝ }
