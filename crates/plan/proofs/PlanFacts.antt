@@ -1,5 +1,5 @@
--- The plan by the rule: it is accepted, how many rows it takes by diagonal, how many cells it reads, that no accepted plan reads fewer, and that none
--- reads the lost column.
+-- The plan by the rule for column k, as the equations number it: it is accepted, how many rows it takes by diagonal, how many cells it reads, that no accepted
+-- plan reads fewer, and that none reads the lost column.
 use mathlib.Core.Path.{_≡_, refl, sym, ap, _∙_, subst}
 use mathlib.Core.Bool.{Bool, true, false, not, _&&_}
 use Prim.Native.Nat.{ℕ, _+_, _-_, _*_, _/_, _%_, _^_, _≤_, _<_}

@@ -35,7 +35,7 @@ module _ (s : Shape) (k plan i : ℕ) where
 
   -- ---- the row's cell of the lost column is one of the equation's
 
-  module _ (bytes : ℕ) (right : RowRight s bytes k plan i) where
+  module _ (right : RowRight s k plan i) where
     of : RdpColumn s k
     of = right .of
 

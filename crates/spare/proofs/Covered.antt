@@ -71,7 +71,7 @@ module _ (s : Shape) (k : ℕ) (stripe : List ℕ) where
         }
 
         held : Held s (chosen s lost (turn .plan) i) (cellNumber s i lost)
-        held = chosen-held s lost (turn .plan) i (length stripe) (record { of = right .buffers .of; long = right .buffers .long; accepted = right .accepted; row = li })
+        held = chosen-held s lost (turn .plan) i (record { of = right .buffers .of; accepted = right .accepted; row = li })
 
     -- what one run does to a row
     turn-restores : (turn : Turn) (old new : List ℕ) → Ran s k stripe turn old new → (i : ℕ) → i < rows s → (inTurn s turn i ≡ true) ⊎ Restored i old → Restored i new

@@ -7,7 +7,7 @@ use native.Mathlib.Nat.{mod-lt, mod-eq-of-lt, mod-add-mod, add-mod-right, mul-le
 use native.Mathlib.Omega.{arith}
 use Rattle.xor.proofs.Cases.{by-equal, by-less}
 use Rattle.codes.specs.declared.Shape.{Shape}
-use Rattle.codes.specs.Shape.{rows, columns, cellNumber, WellFormed}
+use Rattle.codes.specs.Shape.{rows, cellNumber, WellFormed}
 use Rattle.codes.specs.Geometry.{columnOf, liesAt, place}
 use Rattle.codes.proofs.Shapes.{low, rows-low}
 use Rattle.codes.proofs.Residues.{wrapped}
@@ -15,7 +15,19 @@ use Rattle.codes.proofs.Lines.{rdp-rows, rdp-columns}
 use Rattle.codes.proofs.Geometry.{column-there, column-lies, place-at, place-down}
 use Rattle.plan.specs.Plan.{diagonal}
 use Rattle.plan.proofs.Diagonals.{home}
-use Rattle.spare.specs.Places.{starts, leader, inSlot, OnDiagonal, meets}
+use Rattle.spare.specs.Places.{starts, leader, inSlot}
+
+-- the column that is t columns past the one that leads, from column p-1 back to 0
+abbrev pub past : Shape → ℕ → ℕ
+past s t = (t + leader s) % s .p
+
+-- row i of column k is on a diagonal that is not the missing one
+abbrev pub OnDiagonal : Shape → ℕ → ℕ → Type 0
+OnDiagonal s k i = (i < rows s) × (diagonal s k i < rows s)
+
+-- the row in which that diagonal meets the column that leads; p-1 where it does not
+abbrev pub meets : Shape → ℕ → ℕ → ℕ
+meets s k i = (diagonal s k i + (s .p - leader s)) % s .p
 
 module _ (s : Shape) (w : WellFormed s) (rdp : s .code ≡ 1) where
   some : 0 < s .p
@@ -50,7 +62,7 @@ module _ (s : Shape) (w : WellFormed s) (rdp : s .code ≡ 1) where
   rows-long t l = mul-le-mul-right (s .cell) (omega (arith, rdp-rows s w rdp))
 
   -- the column t past the one that leads starts t cells or more into the stripe
-  pub past-far : (t : ℕ) → t < s .p → t * s .cell ≤ starts s ((t + leader s) % s .p)
+  pub past-far : (t : ℕ) → t < s .p → t * s .cell ≤ starts s (past s t)
   unfolding leader
   past-far t l =
       by-equal t 0 (λ z. omega (arith, ap (λ (x : ℕ). x * s .cell) z, zero-mul (s .cell)))
@@ -70,11 +82,11 @@ module _ (s : Shape) (w : WellFormed s) (rdp : s .code ≡ 1) where
           (λ high. omega (arith, wrapped (s .p) (t + leader s) high (omega (arith, low-j))))
 
   -- as the code works it out
-  pub past-is : (t lead j at : ℕ) → lead ≡ leader s → j ≡ (t + lead) % s .p → at ≡ starts s j → at ≡ starts s ((t + leader s) % s .p)
-  past-is t lead j at el ej e = e ∙ ap (starts s) (ej ∙ ap (λ (x : ℕ). (t + x) % s .p) el)
+  pub past-is : (t lead j : ℕ) → lead ≡ leader s → j ≡ (t + lead) % s .p → j ≡ past s t
+  past-is t lead j el ej = ej ∙ ap (λ (x : ℕ). (t + x) % s .p) el
 
-  pub past-low : (t lead j : ℕ) → j ≡ (t + lead) % s .p → j < columns s
-  past-low t lead j e = omega (arith, e, mod-lt (t + lead) some, rdp-columns s w rdp)
+  pub past-low : (t j : ℕ) → j ≡ past s t → j < s .p
+  past-low t j e = omega (arith, e, mod-lt (t + leader s) some)
 
   -- ---- a diagonal, by the row in which it meets the column that leads
 
@@ -92,17 +104,15 @@ module _ (s : Shape) (w : WellFormed s) (rdp : s .code ≡ 1) where
 
   -- as the code works it out
   pub meets-is : (k i d lead row : ℕ) → d ≡ diagonal s k i → lead ≡ leader s → row ≡ (d + (s .p - lead)) % s .p → row ≡ meets s k i
-  unfolding meets
   meets-is k i d lead row ed el e = e ∙ ap₂ (λ (x y : ℕ). (x + (s .p - y)) % s .p) ed el
 
   module _ (k i row : ℕ) (on : OnDiagonal s k i) (e : row ≡ meets s k i) where
     pub row-low : row < s .p
-    unfolding meets
     row-low = omega (arith, e, mod-lt (diagonal s k i + (s .p - leader s)) some)
 
     -- its parity cell starts as many cells or more into the stripe
     pub parity-far : row * s .cell ≤ place s (cellNumber s (diagonal s k i) (s .p))
-    unfolding meets leader
+    unfolding leader
     parity-far =
         by-equal (columnOf s 0) (s .p)
         (λ z. let none : leader s ≡ 0 = ap (λ (x : ℕ). x % s .p) z ∙ mod-self (s .p) in

@@ -16,7 +16,7 @@ use Rattle.codes.specs.Shape.{cellNumber, stripeLength, WellFormed}
 use Rattle.codes.proofs.Places.{cells-apart}
 use Rattle.plan.specs.Plan.{chosen}
 use Rattle.spare.specs.Run.{rebuiltByte, spareByte, RowsRebuilt}
-use Rattle.spare.proofs.Slots.{OthersAt}
+use Rattle.spare.specs.Places.{OthersAt}
 
 -- ---- the other cells of the chosen equation lie inside the stripe
 

@@ -15,7 +15,6 @@ use Rattle.plan.specs.Refusals.{rdpFaults}
 use Rattle.plan.proofs.Column.{lying}
 use Rattle.plan.proofs.Refused.{rdp-accepted}
 use Rattle.spare.specs.Refusals.{spareFaults, runFaults, showFaults}
-use Rattle.plan.specs.Right.{RdpColumn}
 use Rattle.spare.specs.Right.{SpareRight, RunRight}
 
 -- ---- a stripe and a spare

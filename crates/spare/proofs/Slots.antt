@@ -9,12 +9,12 @@ use lib.Dec.{eqb}
 use lib.ListN.{length, getD}
 use borrow.Author.Tests.{eq-eqb, ne-eqb}
 use Rattle.xor.specs.Xor.{_⊕_, xors}
-use Rattle.xor.specs.Runs.{sumAt, Inside}
+use Rattle.xor.specs.Runs.{sumAt}
 use Rattle.xor.proofs.Cases.{by-equal}
 use Rattle.xor.proofs.Algebra.{⊕-zero, ⊕-comm, ⊕-assoc, ⊕-self, ⊕-cancel, equal-⊕}
 use Rattle.xor.proofs.Sums.{xors-same, xors-one, xors-plus, set-apart}
 use Rattle.codes.specs.declared.Shape.{Shape}
-use Rattle.codes.specs.Shape.{cells, equations, stripeLength, WellFormed}
+use Rattle.codes.specs.Shape.{cells, equations, WellFormed}
 use Rattle.codes.specs.Geometry.{place}
 use Rattle.codes.specs.Encoded.{parityCell, byteAt, sumOver, total}
 use Rattle.codes.specs.Holders.{holds}
@@ -22,6 +22,7 @@ use Rattle.codes.proofs.Ordered.{ordered}
 use Rattle.codes.proofs.Geometry.{place-inside}
 use Rattle.codes.proofs.Solutions.{total-holds}
 use Rattle.spare.specs.Run.{others}
+use Rattle.spare.specs.Places.{OthersAt}
 
 -- a cell of the stripe that equation q holds
 pub record Held (s : Shape) (q own : ℕ) : Type 0 where
@@ -29,11 +30,6 @@ pub record Held (s : Shape) (q own : ℕ) : Type 0 where
   pub equation : q < equations s
   pub cell : own < cells s
   pub held : holds s q own ≡ true
-
--- of a stripe the bytes that are `at` past the places have as their sum the other cells of equation q than cell own
-pub record OthersAt (s : Shape) (q own at : ℕ) (places : List ℕ) : Type 0 where
-  pub inside : Inside (stripeLength s) places (at + s .cell)
-  pub sum : (stripe : List ℕ) (t : ℕ) → sumAt stripe places (at + t) ≡ others s q own (λ c. byteAt s stripe c t)
 
 -- two sums that differ in one number
 changed : (n : ℕ) (f g : ℕ → ℕ) (d : ℕ) → d < n → ((k : ℕ) → k < n → k ≢ d → f k ≡ g k) → xors n f ≡ xors n g ⊕ (f d ⊕ g d)

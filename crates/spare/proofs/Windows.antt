@@ -1,14 +1,13 @@
--- A row's own places, among those that are listed for all rows: side by side, and the row's cells are as far past them as the row, or the row in which its
+-- A row's own places, among those that are listed for all rows: p - 1 side by side, and the row's cells are as far past them as the row, or the row in which its
 -- diagonal meets the column that leads, is past 0.
 use mathlib.Core.Path.{_≡_, refl, sym, ap, ap₂, _∙_, subst}
 use mathlib.Core.Logic.{_≢_}
 use mathlib.Core.List.{List}
 use mathlib.Core.Bool.{true, false}
-use Prim.Native.Nat.{ℕ, _+_, _-_, _*_, _%_, _<_}
+use Prim.Native.Nat.{ℕ, _+_, _-_, _*_, _%_, _≤_, _<_}
 use native.Mathlib.Nat.{add-mul, add-comm, mod-lt}
 use native.Mathlib.Omega.{arith}
 use lib.ListN.{length, getD, take, drop}
-use lib.Seq.{length-take-le, getD-take}
 use Rattle.xor.specs.Xor.{xors}
 use Rattle.xor.proofs.Cases.{by-equal, clash}
 use Rattle.xor.proofs.Runs.{part-long, part-byte}
@@ -26,12 +25,13 @@ use Rattle.plan.proofs.Column.{last-row, last-column}
 use Rattle.plan.proofs.Diagonals.{home, home-back, diagonal-back, diagonal-below, diagonal-last, diagonal-turned}
 use Rattle.plan.proofs.Accepted.{every-row}
 use Rattle.plan.proofs.Cells.{taken-low}
-use Rattle.spare.specs.Places.{starts, LevelPlaces, inSlot, SlantPlaces, OnDiagonal, meets, Aimed, RowRight}
+use Rattle.spare.specs.Places.{starts, LevelPlaces, inSlot, SlantPlaces, RowRight, OthersAt, Aimed}
 use Rattle.spare.proofs.Choice.{by-row, by-diagonal, chosen-held}
-use Rattle.spare.proofs.Leads.{slot-column, row-low}
-use Rattle.spare.proofs.Slots.{Held, OthersAt, others-kept, others-swapped}
+use Rattle.spare.proofs.Leads.{OnDiagonal, slot-column, row-low}
+use Rattle.spare.proofs.Slots.{Held, others-kept, others-swapped}
+use Rattle.spare.proofs.Tables.{Swapped}
 
-module _ (s : Shape) (k plan i bytes : ℕ) (right : RowRight s bytes k plan i) where
+module _ (s : Shape) (k plan i : ℕ) (right : RowRight s k plan i) where
   w : WellFormed s
   w = right .of .formed
 
@@ -41,44 +41,59 @@ module _ (s : Shape) (k plan i bytes : ℕ) (right : RowRight s bytes k plan i) 
   li : i < s .p - 1
   li = omega (arith, right .row, n-is)
 
-  inside : (r j : ℕ) → r < s .p - 1 → j < s .p → cellNumber s r j < cells s
-  inside r j lr lj = cell-inside s w r j (omega (arith, n-is)) (omega (arith, rdp-columns s w (right .of .rdp)))
+  cell-below : (r j : ℕ) → r < s .p - 1 → j < s .p → cellNumber s r j < cells s
+  cell-below r j lr lj = cell-inside s w r j (omega (arith, n-is)) (omega (arith, rdp-columns s w (right .of .rdp)))
 
-  -- ---- by row: slot j has column j's place
+  held : (q : ℕ) → chosen s k plan i ≡ q → Held s q (cellNumber s i k)
+  held q e = subst (λ (x : ℕ). Held s x (cellNumber s i k)) e (chosen-held s k plan i right)
 
-  module _ (taken : bit i plan ≡ false) (places : List ℕ) (h : LevelPlaces s k places) where
-    row-slot : (j : ℕ) → j < s .p - 1 → getD (take (s .p - 1) places) j 0 ≡ getD places j 0
-    row-slot j l = getD-take (s .p - 1) places j 0 l
+  -- ---- p - 1 places side by side, as the code lends them
 
-    row-place : (j : ℕ) → j < s .p - 1 → j ≢ k → getD (take (s .p - 1) places) j 0 + i * s .cell ≡ place s (cellNumber s i j)
-    row-place j l e = place-down s w i j _ (right .row) (row-slot j l ∙ h .other j l e)
+  module _ (from : ℕ) (places : List ℕ) (fits : from + (s .p - 1) ≤ length places) where
+    abbrev part : List ℕ
+    part = take (from + (s .p - 1) - from) (drop from places)
 
-    parity-place : k < s .p - 1 → getD (take (s .p - 1) places) k 0 + i * s .cell ≡ place s (parityCell s i)
-    parity-place lk = place-down s w i (s .p - 1) _ (right .row) (row-slot k lk ∙ h .parity lk) ∙ ap (place s) (sym (rdp-first s w (right .of .rdp) i li))
+    exact : from + (s .p - 1) - from ≡ s .p - 1
+    exact = omega arith
 
-    pub row-others : OthersAt s (chosen s k plan i) (cellNumber s i k) (i * s .cell) (take (s .p - 1) places)
+    long : length part ≡ s .p - 1
+    long = part-long places from (from + (s .p - 1) - from) (omega (arith, exact)) ∙ exact
+
+    slot : (r ahead : ℕ) → r < s .p - 1 → getD part r 0 + ahead ≡ getD places (from + r) 0 + ahead
+    slot r ahead lr = ap (λ (x : ℕ). x + ahead) (part-byte places from (from + (s .p - 1) - from) r (omega (arith, exact)))
+
+  -- ---- by row: slot 64 + j has column j's place
+
+  module _ (taken : bit i plan ≡ false) (places : List ℕ) (fits : 64 + (s .p - 1) ≤ length places) (h : LevelPlaces s k places) where
+    row-place : (j : ℕ) → j < s .p - 1 → j ≢ k → getD (part 64 places fits) j 0 + i * s .cell ≡ place s (cellNumber s i j)
+    row-place j l e = slot 64 places fits j (i * s .cell) l ∙ place-down s w i j _ (right .row) (h .other j (omega arith) e)
+
+    parity-place : k < s .p - 1 → getD (part 64 places fits) k 0 + i * s .cell ≡ place s (parityCell s i)
+    parity-place lk = slot 64 places fits k (i * s .cell) lk ∙ place-down s w i (s .p - 1) _ (right .row) (h .parity lk) ∙ ap (place s) (sym (rdp-first s w (right .of .rdp) i li))
+
+    row-others : OthersAt s (chosen s k plan i) (cellNumber s i k) (i * s .cell) (take (64 + (s .p - 1) - 64) (drop 64 places))
     row-others =
-        subst (λ (q : ℕ). OthersAt s q (cellNumber s i k) (i * s .cell) (take (s .p - 1) places)) (sym (by-row s k plan i taken))
+        subst (λ (q : ℕ). OthersAt s q (cellNumber s i k) (i * s .cell) (part 64 places fits)) (sym (by-row s k plan i taken))
         (by-equal k (s .p - 1)
-        (λ e. others-kept s i (cellNumber s i k) held (s .p - 1) (cellNumber s i) below sum (i * s .cell) (take (s .p - 1) places) long
+        (λ e. others-kept s i (cellNumber s i k) own (s .p - 1) (cellNumber s i) below sum (i * s .cell) (part 64 places fits) (long 64 places fits)
         (ap (cellNumber s i) e ∙ sym (rdp-first s w (right .of .rdp) i li)) (λ j l. row-place j l (λ z. omega arith)))
         (λ e. let lk : k < s .p - 1 = omega (arith, k-low) in
-        others-swapped s i (cellNumber s i k) held (s .p - 1) (cellNumber s i) below sum (i * s .cell) (take (s .p - 1) places) long k lk refl (parity-place lk) row-place))
+        others-swapped s i (cellNumber s i k) own (s .p - 1) (cellNumber s i) below sum (i * s .cell) (part 64 places fits) (long 64 places fits) k lk refl (parity-place lk) row-place))
       where
         k-low : k < s .p
         k-low = by-equal k (s .p) (λ e. clash (every-row s k plan (right .of) (right .accepted) e i (right .row)) taken) (λ e. omega (arith, last-column s k (right .of)))
 
-        held : Held s i (cellNumber s i k)
-        held = subst (λ (q : ℕ). Held s q (cellNumber s i k)) (by-row s k plan i taken) (chosen-held s k plan i bytes right)
+        own : Held s i (cellNumber s i k)
+        own = held i (by-row s k plan i taken)
 
         below : (j : ℕ) → j < s .p - 1 → cellNumber s i j < cells s
-        below j l = inside i j li (omega arith)
+        below j l = cell-below i j li (omega arith)
 
         sum : (f : ℕ → ℕ) → sumOver s i f ≡ xors (s .p - 1) (λ j. f (cellNumber s i j))
         sum = rdp-row-sum s w (right .of .rdp) i li
 
-        long : length (take (s .p - 1) places) ≡ s .p - 1
-        long = length-take-le (s .p - 1) places (omega (arith, h .long, high s w))
+    pub aimed-row : SlantPlaces s k places → Aimed s k plan i (record { from = 64; ahead = i }) places
+    aimed-row slant = record { inside = omega (arith, high s w); ahead = omega (arith, li); level = h; slant = slant; cells = row-others }
 
   -- ---- by diagonal: slot r of the p - 1 from p - 1 - row on has the place of row r's cell
 
@@ -109,34 +124,25 @@ module _ (s : Shape) (k plan i bytes : ℕ) (right : RowRight s bytes k plan i) 
       unfolding d
       once r lr e = sym (home-back s k r (omega arith) (omega arith)) ∙ ap (home s k) (diagonal-below s k r lk ∙ ap (λ (x : ℕ). (r + x) % s .p) (sym e) ∙ column-on r lr) ∙ home-back s k i (omega arith) (omega (arith, li))
 
-    module _ (row : ℕ) (places : List ℕ) (h : Aimed s k i row places) where
-      -- the slots from p - 1 - row on, as the code lends them
-      part : List ℕ
-      part = take (s .p - 1 - row + (s .p - 1) - (s .p - 1 - row)) (drop (s .p - 1 - row) places)
-
-      exact : s .p - 1 - row + (s .p - 1) - (s .p - 1 - row) ≡ s .p - 1
-      exact = omega arith
-
+    module _ (row : ℕ) (places : List ℕ) (h : Swapped s k i row places) where
       low-row : row < s .p
       low-row = row-low s w (right .of .rdp) k i row on-diagonal (h .row)
 
-      long : length part ≡ s .p - 1
-      unfolding part
-      long = part-long places (s .p - 1 - row) (s .p - 1 - row + (s .p - 1) - (s .p - 1 - row)) (omega (arith, exact, h .listed .long, high s w)) ∙ exact
+      fits : s .p - 1 - row + (s .p - 1) ≤ length places
+      fits = omega (arith, h .slant .long, high s w)
 
-      slot : (r : ℕ) → r < s .p - 1 → getD part r 0 ≡ getD places (s .p - 1 - row + r) 0
-      unfolding part
-      slot r lr = part-byte places (s .p - 1 - row) (s .p - 1 - row + (s .p - 1) - (s .p - 1 - row)) r (omega (arith, exact))
+      abbrev list : List ℕ
+      list = part (s .p - 1 - row) places fits
 
-      place-of : (r : ℕ) → r < s .p - 1 → home s r d ≢ k → getD part r 0 + row * s .cell ≡ place s (cellNumber s r (home s r d))
-      unfolding d meets
+      place-of : (r : ℕ) → r < s .p - 1 → home s r d ≢ k → getD list r 0 + row * s .cell ≡ place s (cellNumber s r (home s r d))
+      unfolding d
       place-of r lr n =
           let x = s .p - 1 - row + r in
           let is : inSlot s x ≡ home s r d = slot-column s w (right .of .rdp) d row r (h .row) (omega arith) in
           omega (
             arith,
-            slot r lr,
-            h .listed .slot x (omega arith) (λ e. n (sym is ∙ e)),
+            slot (s .p - 1 - row) places fits r (row * s .cell) lr,
+            h .slant .slot x (omega arith) (λ e. n (sym is ∙ e)),
             ap (starts s) is,
             place-down s w r (home s r d) (starts s (home s r d)) (omega (arith, n-is)) refl,
             add-mul (s .p - 1 - row) r (s .cell),
@@ -147,19 +153,19 @@ module _ (s : Shape) (k plan i bytes : ℕ) (right : RowRight s bytes k plan i) 
       parity-is : parityCell s (s .p - 1 + d) ≡ cellNumber s d (s .p)
       parity-is = rdp-second s w (right .of .rdp) d d-low
 
-      parity-at : k < s .p → getD part i 0 + row * s .cell ≡ place s (parityCell s (s .p - 1 + d))
+      parity-at : k < s .p → getD list i 0 + row * s .cell ≡ place s (parityCell s (s .p - 1 + d))
       unfolding d
-      parity-at lk = ap (λ (x : ℕ). x + row * s .cell) (slot i li) ∙ h .parity lk ∙ ap (place s) (sym parity-is)
+      parity-at lk = slot (s .p - 1 - row) places fits i (row * s .cell) li ∙ h .parity lk ∙ ap (place s) (sym parity-is)
 
-      pub diagonal-others : OthersAt s (chosen s k plan i) (cellNumber s i k) (row * s .cell) (take (s .p - 1 - row + (s .p - 1) - (s .p - 1 - row)) (drop (s .p - 1 - row) places))
-      unfolding d part
+      diagonal-others : OthersAt s (chosen s k plan i) (cellNumber s i k) (row * s .cell) list
+      unfolding d
       diagonal-others =
-          subst (λ (q : ℕ). OthersAt s q (cellNumber s i k) (row * s .cell) part) (sym q-is)
+          subst (λ (q : ℕ). OthersAt s q (cellNumber s i k) (row * s .cell) list) (sym q-is)
           (by-equal k (s .p)
-          (λ e. others-kept s (s .p - 1 + d) (cellNumber s i k) held (s .p - 1) cell below sum (row * s .cell) part long
+          (λ e. others-kept s (s .p - 1 + d) (cellNumber s i k) own (s .p - 1) cell below sum (row * s .cell) list (long (s .p - 1 - row) places fits)
           (ap₂ (cellNumber s) (sym (diagonal-last s k i e)) e ∙ sym parity-is) (λ r lr. place-of r lr (λ z. omega (arith, column-low r))))
           (λ e. let lk : k < s .p = omega (arith, last-column s k (right .of)) in
-          others-swapped s (s .p - 1 + d) (cellNumber s i k) held (s .p - 1) cell below sum (row * s .cell) part long i li
+          others-swapped s (s .p - 1 + d) (cellNumber s i k) own (s .p - 1) cell below sum (row * s .cell) list (long (s .p - 1 - row) places fits) i li
           (ap (cellNumber s i) (own-column lk)) (parity-at lk) (λ r lr n. place-of r lr (λ z. n (once lk r lr z)))))
         where
           cell : ℕ → ℕ
@@ -168,11 +174,14 @@ module _ (s : Shape) (k plan i bytes : ℕ) (right : RowRight s bytes k plan i) 
           q-is : chosen s k plan i ≡ s .p - 1 + d
           q-is = by-diagonal s k plan i taken ∙ ap (λ (x : ℕ). x + d) (sym n-is)
 
-          held : Held s (s .p - 1 + d) (cellNumber s i k)
-          held = subst (λ (q : ℕ). Held s q (cellNumber s i k)) q-is (chosen-held s k plan i bytes right)
+          own : Held s (s .p - 1 + d) (cellNumber s i k)
+          own = held (s .p - 1 + d) q-is
 
           below : (r : ℕ) → r < s .p - 1 → cell r < cells s
-          below r lr = inside r (home s r d) lr (column-low r)
+          below r lr = cell-below r (home s r d) lr (column-low r)
 
           sum : (f : ℕ → ℕ) → sumOver s (s .p - 1 + d) f ≡ xors (s .p - 1) (λ r. f (cell r))
           sum = rdp-diagonal-sum s w (right .of .rdp) d d-low (λ r. home s r d) (λ r lr. (column-low r, column-on r lr))
+
+      pub aimed-diagonal : Aimed s k plan i (record { from = s .p - 1 - row; ahead = row }) places
+      aimed-diagonal = record { inside = omega (arith, high s w); ahead = low-row; level = h .level; slant = h .slant; cells = diagonal-others }

@@ -7,7 +7,6 @@ use Prim.Native.Nat.{ℕ, _+_, _-_, _*_, _≤_, _<_, min}
 use lib.Dec.{eqb}
 use lib.ListN.{length, getD}
 use Rattle.xor.specs.Xor.{xors}
-use Rattle.xor.specs.Runs.{Put}
 use Rattle.codes.specs.declared.Shape.{Shape}
 use Rattle.codes.specs.declared.Counted.{Counted}
 use Rattle.codes.specs.Shape.{rows, cells, cellNumber}
@@ -25,10 +24,6 @@ others s q own f = xors (cells s) (λ c. cond (holds s q c && not (eqb c own)) (
 -- byte t of row i of column k, by a plan: the XOR of the other cells of the equation by which the row is taken
 unfoldable pub rebuiltByte : Shape → ℕ → ℕ → List ℕ → ℕ → ℕ → ℕ
 rebuiltByte s k plan stripe i t = others s (chosen s k plan i) (cellNumber s i k) (λ c. byteAt s stripe c t)
-
--- new is a row's part of the spare with row i of column k rebuilt in it
-abbrev pub RowPut : Shape → ℕ → ℕ → ℕ → List ℕ → List ℕ → List ℕ → Type 0
-RowPut s k plan i stripe old new = Put old 0 (s .cell) (rebuiltByte s k plan stripe i) new
 
 -- byte t of row i of a spare, which is one column: row i is cell i of it
 unfoldable pub spareByte : Shape → List ℕ → ℕ → ℕ → ℕ

@@ -2,7 +2,6 @@
 // Each call takes any numbers and any bytes: what can't be done is refused by its number, with every byte as it was. Callers number columns as
 // they lie in the stripe; past the refusals column k is as the equations number it.
 ghost use mathlib.Core.Path.{_≡_};
-ghost use mathlib.Core.List.{_∷_};
 ghost use Prim.Native.Nat.{_+_, _-_, _*_, _≤_, _<_, min};
 ghost use lib.ListN.{length};
 ghost use Rattle.codes.specs.Shape.{rows, WellFormed};
@@ -10,8 +9,8 @@ ghost use Rattle.codes.specs.Refusals.{refusal};
 ghost use Rattle.plan.specs.Right.{RdpColumn};
 ghost use Rattle.spare.specs.Refusals.{spareFaults, runFaults, showFaults};
 ghost use Rattle.spare.specs.Right.{RunRight};
-ghost use Rattle.spare.specs.Places.{LevelPlaces, leader, ColumnPut, SlantPlaces, OnDiagonal, Aimed, RowReady};
-ghost use Rattle.spare.specs.Run.{RowPut, RowsRebuilt, RunsByPlan};
+ghost use Rattle.spare.specs.Places.{LevelPlaces, leader, ColumnPut, SlantPlaces, RowRight, Aimed, RowReady, RowDone};
+ghost use Rattle.spare.specs.Run.{RowsRebuilt, RunsByPlan};
 ghost use Rattle.spare.specs.Show.{reason, Shown, Shows};
 use codes::Counted;
 use codes::Shape;
@@ -19,11 +18,18 @@ pub use plan::PlanAnswer;
 pub use plan::ReadPlan;
 pub use plan::plan;
 
-// A place for each column of a stripe.
-const COLUMNS: usize = 32;
+// Where the cells start from which rows are rebuilt is listed for all rows at once: slots 0 to 63 for rows that are taken by diagonal, two for each
+// column; slots from this on for those that are taken by row, one for each column.
+const LEVEL: usize = 64;
 
-// Two places for each.
-const SLOTS: usize = 2 * COLUMNS;
+// All slots.
+const SLOTS: usize = LEVEL + 32;
+
+// Where in the list a row's own places start, and how many cells past them its cells do.
+struct Window {
+    from: usize,
+    ahead: usize,
+}
 
 // Where a shown cell starts: in the stripe or in the spare; or a refusal number.
 pub enum ShownAt {
@@ -107,25 +113,8 @@ fn show_refusal(
     0
 }
 
-// Fills in where the cells start from which a row of column k is rebuilt by its row, as if the row were row 0: those in row 0 of the
-// first p - 1 columns. The parity cell's place stands in for column k's.
-fn row_places(shape: Shape, k: usize, places: &mut [usize; COLUMNS])
-    requires { ⌜ RdpColumn shape k × (length (now places) ≡ 32) ⌝ }
-    ensures { λ _. ⌜ LevelPlaces shape k (now (places .exit)) ⌝ }
-{
-    let n = shape.p - 1;
-    let mut j = 0;
-    while j < n {
-        places[j] = codes::column_place(shape, j);
-        j += 1;
-    }
-    if k < n {
-        places[k] = codes::column_place(shape, n);
-    }
-}
-
-// The column that leads: the one that lies first, or column 0 where that is the diagonal parity column. Every other of the first p columns
-// starts as many cells into the stripe as a column has.
+// The column that leads: the one that lies first, or column 0 where that is the diagonal parity column. No other of the first p columns starts
+// less than a column into the stripe.
 fn leading(shape: Shape) -> usize
     requires { ⌜ WellFormed shape × (shape .code ≡ 1) ⌝ }
     ensures { λ r. ⌜ r ≡ leader shape ⌝ }
@@ -136,7 +125,7 @@ fn leading(shape: Shape) -> usize
 // Fills in the two slots of the column that is t past the one that leads: that for a diagonal which meets it in a row t rows above, and p
 // slots later that for one which meets it in a row p - t rows below.
 fn put_column(places: &mut [usize; SLOTS], p: usize, t: usize, above: usize, below: usize)
-    requires { ⌜ (p < 32) × (t < p) × (length (now places) ≡ 64) ⌝ }
+    requires { ⌜ (p < 32) × (t < p) × (length (now places) ≡ 96) ⌝ }
     ensures { λ _. ⌜ ColumnPut p t above below (now (places .entry)) (now (places .exit)) ⌝ }
 {
     let slot = p - 1 - t;
@@ -144,65 +133,78 @@ fn put_column(places: &mut [usize; SLOTS], p: usize, t: usize, above: usize, bel
     places[slot + p] = below;
 }
 
-// Fills in where the cells of a diagonal start, as if it met the column that leads in row 0: those of the first p columns. A diagonal that meets
-// it in row r then has its cells, row after row, from slot p - 1 - r on, each r cells further on.
-fn diagonal_places(shape: Shape, lead: usize, places: &mut [usize; SLOTS])
-    requires { ⌜ WellFormed shape × (shape .code ≡ 1) × (lead ≡ leader shape) × (length (now places) ≡ 64) ⌝ }
-    ensures { λ _. ⌜ SlantPlaces shape (shape .p) (now (places .exit)) ⌝ }
+// Lists where the first p columns start, for rows, and where the cells of a diagonal do that meets the column that leads in row 0: one that meets it
+// in row r has its own, row after row, from slot p - 1 - r on, each r cells further on.
+fn list_places(shape: Shape, lead: usize, places: &mut [usize; SLOTS])
+    requires { ⌜ WellFormed shape × (shape .code ≡ 1) × (lead ≡ leader shape) × (length (now places) ≡ 96) ⌝ }
+    ensures { λ _. ⌜ LevelPlaces shape (shape .p) (now (places .exit)) × SlantPlaces shape (shape .p) (now (places .exit)) ⌝ }
 {
     let p = shape.p;
     let turn = p * shape.cell;
     let mut back = 0;
     let mut t = 0;
     while t < p {
-        let at = codes::column_place(shape, codes::turned(t, lead, p)) - back;
-        put_column(places, p, t, at, at + turn);
+        let column = codes::turned(t, lead, p);
+        let start = codes::column_place(shape, column);
+        let above = start - back;
+        put_column(places, p, t, above, above + turn);
+        places[LEVEL + column] = start;
         back += shape.cell;
         t += 1;
     }
 }
 
-// Puts the place of the parity cell of row i's diagonal in for that of column k's cell. Answers the row in which the diagonal meets the column
-// that leads.
-fn aim(shape: Shape, lead: usize, k: usize, i: usize, slant: &mut [usize]) -> usize
-    requires { ⌜ RdpColumn shape k × OnDiagonal shape k i × (lead ≡ leader shape) × SlantPlaces shape k (now slant) ⌝ }
-    ensures { λ r. ⌜ Aimed shape k i r (now (slant .exit)) ⌝ }
+// Puts the place of a row's parity cell in for that of column k's cell, where rows sum that.
+fn swap_row_parity(shape: Shape, k: usize, places: &mut [usize; SLOTS])
+    requires { ⌜ RdpColumn shape k × LevelPlaces shape (shape .p) (now places) × SlantPlaces shape (shape .p) (now places) ⌝ }
+    ensures { λ _. ⌜ LevelPlaces shape k (now (places .exit)) × SlantPlaces shape k (now (places .exit)) ⌝ }
 {
-    let p = shape.p;
-    let d = codes::turned(i, k, p);
-    let row = codes::turned(d, p - lead, p);
-    if k < p {
-        slant[p - 1 - row + i] = codes::cell_place(shape, d, p) - row * shape.cell;
+    let n = shape.p - 1;
+    if k < n {
+        places[LEVEL + k] = places[LEVEL + n];
     }
-    row
 }
 
-// Rebuilds row i of column k into its part of the spare: the XOR of the other cells of the equation by which the plan takes it. By its row
-// they start i cells past the places in `level`; by its diagonal, as many cells past p - 1 places side by side in `slant` as that is aimed.
+// The window of row i: its places by its row, or by its diagonal, which has the place of the diagonal's parity cell put in for column k's.
+fn aim(shape: Shape, lead: usize, k: usize, plan: u64, i: usize, places: &mut [usize]) -> Window
+    requires { ⌜ RowRight shape k plan i × (lead ≡ leader shape) × LevelPlaces shape k (now places) × SlantPlaces shape k (now places) ⌝ }
+    ensures { λ r. ⌜ Aimed shape k plan i r (now (places .exit)) ⌝ }
+{
+    if plan & bits::one_bit(i) == 0 {
+        return Window {
+            from: LEVEL,
+            ahead: i,
+        };
+    }
+    let p = shape.p;
+    let d = codes::turned(i, k, p);
+    let ahead = codes::turned(d, p - lead, p);
+    let from = p - 1 - ahead;
+    if k < p {
+        places[from + i] = codes::cell_place(shape, d, p) - ahead * shape.cell;
+    }
+    Window { from, ahead }
+}
+
+// Rebuilds row i of column k into its part of the spare: the XOR of the other cells of the equation by which the plan takes it.
 fn rebuild_row(
     shape: Shape,
     stripe: &[u8],
-    level: &[usize],
-    slant: &mut [usize],
+    places: &mut [usize],
     lead: usize,
     k: usize,
     plan: u64,
     i: usize,
     part: &mut [u8],
 )
-    requires { ⌜ RowReady shape (length (now stripe)) k plan i lead (length (now part)) (now level) (now slant) ⌝ }
-    ensures { λ _. ⌜ RowPut shape k plan i (now (stripe .entry)) (now (part .entry)) (now (part .exit)) × SlantPlaces shape k (now (slant .exit)) ⌝ }
+    requires { ⌜ RowReady shape (length (now stripe)) lead k plan i (now places) (length (now part)) ⌝ }
+    ensures { λ _. ⌜ RowDone shape k plan i (now (stripe .entry)) (now (part .entry)) (now (part .exit)) (now (places .exit)) ⌝ }
 {
-    let cell = shape.cell;
-    let n = shape.p - 1;
-    if plan & bits::one_bit(i) == 0 {
-        xor::put_sum_whole(part, stripe, &level[..n], i * cell);
-        return;
-    }
-    let row = aim(shape, lead, k, i, slant);
-    let from = n - row;
-    let to = from + n;
-    xor::put_sum_whole(part, stripe, &slant[from..to], row * cell);
+    let window = aim(shape, lead, k, plan, i, places);
+    let from = window.from;
+    let to = from + (shape.p - 1);
+    let at = window.ahead * shape.cell;
+    xor::put_sum_whole(part, stripe, &places[from..to], at);
 }
 
 // Rebuilds n rows of the spare from the first on, each into its own part: no other byte of the spare changes. Where their cells start is
@@ -219,11 +221,10 @@ fn run_rows(
     requires { ⌜ RunRight shape (length (now stripe)) (length (now spare)) k plan first × (first + n ≤ rows shape) ⌝ }
     ensures { λ _. ⌜ RowsRebuilt shape k plan first n (now (stripe .entry)) (now (spare .entry)) (now (spare .exit)) ⌝ }
 {
-    let mut level = [0usize; COLUMNS];
-    row_places(shape, k, &mut level);
+    let mut places = [0usize; SLOTS];
     let lead = leading(shape);
-    let mut slant = [0usize; SLOTS];
-    diagonal_places(shape, lead, &mut slant);
+    list_places(shape, lead, &mut places);
+    swap_row_parity(shape, k, &mut places);
     let cell = shape.cell;
     let end = first + n;
     let mut i = first;
@@ -233,8 +234,7 @@ fn run_rows(
         rebuild_row(
             shape,
             stripe,
-            &level,
-            &mut slant,
+            &mut places,
             lead,
             k,
             plan,

@@ -1,7 +1,4 @@
 -- `spare::leading` meets its contract: column p is no further on than column 0.
-use mathlib.Core.Path.{ap, _∙_}
-use Prim.Native.Nat.{ℕ, _+_, _%_}
-use native.Mathlib.Nat.{zero-add}
 use native.Mathlib.Omega.{arith}
 use Rattle.codes.proofs.Shapes.{low, high}
 use Rattle.codes.proofs.Lines.{rdp-columns}

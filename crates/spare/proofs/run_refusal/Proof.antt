@@ -44,7 +44,9 @@ left-tests c g =
     run-after (a .shape) (a .bytes) (a .spare) (a .k) (a .plan) (a .first) .own (right-of (c .before .before)) (miss (inside (c .before .column-count .ensures) (c .if2 .left)) g)
 
 returns-3 : tie.Need-returns-3
-returns-3 c = left-tests (c .before .before) (hit (le-leb _ _ (c .if3 .taken)))
+returns-3 c =
+    let a = c .before .before .before .before .before .before .args in
+    left-tests (c .before .before) (hit (le-leb (a .shape .p) (a .first) (c .if3 .taken)))
 
 -- past the third the place is one of the stripe's
 asked : (c : tie.Else3) → let a = c .before .before .before .before .before .before .args in RdpColumn (a .shape) (a .k)
