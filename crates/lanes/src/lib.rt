@@ -79,7 +79,8 @@ fn lane_agrees(
     lanes: &mut [u8],
 ) -> bool
     requires { ⌜ InLane shape (now stripe) at n (now lanes) × Sets shape v (now checks) × Union v (now checks) set ⌝ }
-    ensures { λ r. ⌜ Says ((i : ℕ) → i < n → Passes shape (now (stripe .entry)) v (now (checks .entry)) (at + i)) r × (length (now (lanes .exit)) ≡ room) ⌝ }
+    ensures { λ r. ⌜ Says ((i : ℕ) → i < n → Passes shape (now (stripe .entry)) v (now (checks .entry)) (at + i)) r
+        × (length (now (lanes .exit)) ≡ room) ⌝ }
 {
     put_totals(shape, stripe, set, at, n, lanes);
     lanes_agree(lanes, checks, v, n)
@@ -96,7 +97,8 @@ pub fn survivors_agree(
     lanes: &mut [u8],
 ) -> bool
     requires { ⌜ Window shape (now stripe) at n × Sets shape v (now checks) × (length (now lanes) ≡ room) ⌝ }
-    ensures { λ r. ⌜ Says ((i : ℕ) → i < n → Passes shape (now (stripe .entry)) v (now (checks .entry)) (at + i)) r × (length (now (lanes .exit)) ≡ room) ⌝ }
+    ensures { λ r. ⌜ Says ((i : ℕ) → i < n → Passes shape (now (stripe .entry)) v (now (checks .entry)) (at + i)) r
+        × (length (now (lanes .exit)) ≡ room) ⌝ }
 {
     let set = bits::union(checks, v);
     let mut done = 0;
@@ -113,7 +115,8 @@ pub fn survivors_agree(
 // XORs the lanes of a set into n bytes of the stripe at `to`.
 fn add_lanes(stripe: &mut [u8], to: usize, lanes: &[u8], set: u64, n: usize)
     requires { ⌜ (length (now lanes) ≡ room) × (n ≤ lane) × (to + n ≤ length (now stripe)) ⌝ }
-    ensures { λ _. ⌜ Put (now (stripe .entry)) to n (λ i. getD (now (stripe .entry)) (to + i) 0 ⊕ laneSum (now (lanes .entry)) set i) (now (stripe .exit)) ⌝ }
+    ensures { λ _. ⌜ Put (now (stripe .entry)) to n (λ i. getD (now (stripe .entry)) (to + i) 0 ⊕ laneSum (now (lanes .entry)) set i)
+        (now (stripe .exit)) ⌝ }
 {
     let mut places = [0usize; bits::ROOM];
     let count = bits::list_members(set, LANE, &mut places);
@@ -131,7 +134,8 @@ fn fill_cells(
     at: usize,
     n: usize,
 )
-    requires { ⌜ InLane shape (now stripe) at n (now lanes) × Sets shape lost (now sets) × CellsIn shape lost (now listed) × LanesOf shape (now stripe) lost (now sets) at n (now lanes) ⌝ }
+    requires { ⌜ InLane shape (now stripe) at n (now lanes) × Sets shape lost (now sets) × CellsIn shape lost (now listed)
+        × LanesOf shape (now stripe) lost (now sets) at n (now lanes) ⌝ }
     ensures { λ _. ⌜ Filled shape (now (listed .entry)) (now (sets .entry)) lost at (at + n) (now (stripe .entry)) (now (stripe .exit)) ⌝ }
 {
     let mut k = 0;
@@ -154,8 +158,10 @@ fn fill_lane(
     n: usize,
     lanes: &mut [u8],
 )
-    requires { ⌜ InLane shape (now stripe) at n (now lanes) × Sets shape lost (now sets) × CellsIn shape lost (now listed) × Union lost (now sets) set ⌝ }
-    ensures { λ _. ⌜ Filled shape (now (listed .entry)) (now (sets .entry)) lost at (at + n) (now (stripe .entry)) (now (stripe .exit)) × (length (now (lanes .exit)) ≡ room) ⌝ }
+    requires { ⌜ InLane shape (now stripe) at n (now lanes) × Sets shape lost (now sets) × CellsIn shape lost (now listed)
+        × Union lost (now sets) set ⌝ }
+    ensures { λ _. ⌜ Filled shape (now (listed .entry)) (now (sets .entry)) lost at (at + n) (now (stripe .entry)) (now (stripe .exit))
+        × (length (now (lanes .exit)) ≡ room) ⌝ }
 {
     put_totals(shape, stripe, set, at, n, lanes);
     fill_cells(shape, stripe, lanes, listed, sets, lost, at, n);
@@ -170,7 +176,8 @@ fn fill(
     lost: usize,
     lanes: &mut [u8],
 )
-    requires { ⌜ WellFormed shape × (length (now stripe) ≡ stripeLength shape) × Sets shape lost (now sets) × CellsIn shape lost (now listed) × (length (now lanes) ≡ room) ⌝ }
+    requires { ⌜ WellFormed shape × (length (now stripe) ≡ stripeLength shape) × Sets shape lost (now sets)
+        × CellsIn shape lost (now listed) × (length (now lanes) ≡ room) ⌝ }
     ensures { λ _. ⌜ Filled shape (now (listed .entry)) (now (sets .entry)) lost 0 (shape .cell) (now (stripe .entry)) (now (stripe .exit)) ⌝ }
 {
     let set = bits::union(sets, lost);
@@ -193,8 +200,10 @@ pub fn mend(
     checks: &[u64; bits::ROOM],
     v: usize,
 ) -> usize
-    requires { ⌜ WellFormed shape × (length (now stripe) ≡ stripeLength shape) × Sets shape lost (now sets) × CellsIn shape lost (now listed) × Sets shape v (now checks) ⌝ }
-    ensures { λ r. ⌜ Mends shape (now (listed .entry)) (now (sets .entry)) lost (now (checks .entry)) v (now (stripe .entry)) r (now (stripe .exit)) ⌝ }
+    requires { ⌜ WellFormed shape × (length (now stripe) ≡ stripeLength shape) × Sets shape lost (now sets)
+        × CellsIn shape lost (now listed) × Sets shape v (now checks) ⌝ }
+    ensures { λ r. ⌜ Mends shape (now (listed .entry)) (now (sets .entry)) lost (now (checks .entry)) v (now (stripe .entry)) r
+        (now (stripe .exit)) ⌝ }
 {
     let mut lanes = [0u8; LANES];
     if !survivors_agree(shape, stripe, checks, v, 0, shape.cell, &mut lanes) {

@@ -73,7 +73,8 @@ pub fn broken(shape: Shape, stripe: &[u8]) -> Counted
 // XORs how the bytes of the data cell at `from` differ from the new ones into the parity cell of every equation of a set.
 fn spread(shape: Shape, stripe: &mut [u8], set: u64, from: usize, new: &[u8])
     requires { ⌜ FromCell shape (now stripe) from (now new) × ((q : ℕ) → bit q set ≡ true → q < equations shape) ⌝ }
-    ensures { λ _. ⌜ Spread shape (λ q. bit q set) (differs (now (stripe .entry)) from (now (new .entry))) (now (stripe .entry)) (now (stripe .exit)) ⌝ }
+    ensures { λ _. ⌜ Spread shape (λ q. bit q set) (differs (now (stripe .entry)) from (now (new .entry))) (now (stripe .entry))
+        (now (stripe .exit)) ⌝ }
 {
     let mut rest = set;
     while rest != 0 {
@@ -95,7 +96,8 @@ fn count_members(set: u64) -> usize
 // Answers how many these are.
 fn write_cell(shape: Shape, stripe: &mut [u8], row: usize, column: usize, new: &[u8]) -> usize
     requires { ⌜ WriteRight shape (length (now stripe)) row column (length (now new)) ⌝ }
-    ensures { λ r. ⌜ Written shape (cellNumber shape row column) (now (stripe .entry)) (now (new .entry)) (now (stripe .exit)) × Depending shape (cellNumber shape row column) r ⌝ }
+    ensures { λ r. ⌜ Written shape (cellNumber shape row column) (now (stripe .entry)) (now (new .entry)) (now (stripe .exit))
+        × Depending shape (cellNumber shape row column) r ⌝ }
 {
     let from = codes::cell_place(shape, row, column);
     let set = codes::dependents_of(shape, row, column);

@@ -196,7 +196,8 @@ pub fn put_sum_from(d: &mut [u8], to: usize, s: &[u8], places: &[usize], at: usi
 // loop that calls it.
 pub fn put_sum_whole(d: &mut [u8], s: &[u8], places: &[usize], at: usize)
     requires { ⌜ Inside (length (now s)) (now places) (at + length (now d)) × (at + length (now d) < 2 ^ 64) ⌝ }
-    ensures { λ _. ⌜ Put (now (d .entry)) 0 (length (now (d .entry))) (λ t. sumAt (now (s .entry)) (now (places .entry)) (at + t)) (now (d .exit)) ⌝ }
+    ensures { λ _. ⌜ Put (now (d .entry)) 0 (length (now (d .entry))) (λ t. sumAt (now (s .entry)) (now (places .entry)) (at + t))
+        (now (d .exit)) ⌝ }
 {
     let n = d.len();
     if n < 128 {

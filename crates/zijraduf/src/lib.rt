@@ -169,7 +169,8 @@ pub extern "C" fn zijraduf_run(
     first: usize,
     budget: usize,
 ) -> Count
-    ensures { λ r. ⌜ InNumbers countInNumbers (RunsByPlan shape k plan first budget (now (stripe .entry)) (now (spare .entry)) (now (spare .exit))) r ⌝ }
+    ensures { λ r. ⌜ InNumbers countInNumbers (RunsByPlan shape k plan first budget (now (stripe .entry)) (now (spare .entry))
+        (now (spare .exit))) r ⌝ }
 {
     in_numbers(spare::run(shape, stripe, k, plan, spare, first, budget))
 }
@@ -185,7 +186,8 @@ pub extern "C" fn zijraduf_show(
     row: usize,
     column: usize,
 ) -> Part
-    ensures { λ r. ⌜ InNumbers (shownInNumbers shape) (Shown shape (length (now (stripe .entry))) (length (now (spare .entry))) k done row column) r ⌝ }
+    ensures { λ r. ⌜ InNumbers (shownInNumbers shape) (Shown shape (length (now (stripe .entry)))
+        (length (now (spare .entry))) k done row column) r ⌝ }
 {
     let length = shape.cell;
     match spare::shown_at(shape, stripe.len(), spare.len(), k, done, row, column) {
