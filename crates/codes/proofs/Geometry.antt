@@ -135,9 +135,3 @@ module _ (s : Shape) (w : WellFormed s) where
   pub cell-of-is : (c d n : ℕ) → n ≡ rows s → d ≡ columnOf s (c / n) → d * n + c % n ≡ cellOf s c
   unfolding cellOf cellNumber
   cell-of-is c d n en ed = ap₂ (λ (x y : ℕ). x * y + c % y) ed en ∙ ap (λ (y : ℕ). columnOf s (c / y) * rows s + c % rows s) en
-
-  -- ---- today columns lie by their numbers: for what is not stated by places yet
-
-  pub place-is : (c : ℕ) → place s c ≡ c * s .cell
-  unfolding place callersCell liesAt
-  place-is c = ap (λ (x : ℕ). x * s .cell) (number-at c)
