@@ -20,10 +20,10 @@ pub use plan::plan;
 
 // Where the cells start from which rows are rebuilt is listed for all rows at once: slots 0 to 63 for rows that are taken by diagonal, two for each
 // column; slots from this on for those that are taken by row, one for each column.
-const LEVEL: usize = 64;
+const LEVEL: usize = 2 * codes::PLACES;
 
 // All slots.
-const SLOTS: usize = LEVEL + 32;
+const SLOTS: usize = LEVEL + codes::PLACES;
 
 // Where in the list a row's own places start, and how many cells past them its cells do.
 struct Window {

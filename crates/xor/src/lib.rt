@@ -1,13 +1,16 @@
 // XOR of runs of bytes in slices: what nearly all the work on a stripe is made of.
-// A run is summed a block of 128 bytes at a time, since that many stay in registers.
+// A run is summed a block at a time.
 ghost use mathlib.Core.Path.{_≡_};
 ghost use mathlib.Core.Bool.{true, false};
 ghost use Prim.Native.Nat.{ℕ, _+_, _^_, _≤_, _<_};
 ghost use lib.ListN.{length, getD};
 ghost use Rattle.xor.specs.Runs.{sumAt, withOwn, changedBy, addedTo, Inside, Apart, Beside, Added, Put, Says, NonzeroAt};
 
+// The bytes of a block: that many stay in registers.
+const BLOCK: usize = 128;
+
 // The block `sum` with n bytes of s, from `at` on, XORed in.
-fn add_bytes(sum: [u8; 128], s: &[u8], at: usize, n: usize) -> [u8; 128]
+fn add_bytes(sum: [u8; BLOCK], s: &[u8], at: usize, n: usize) -> [u8; BLOCK]
     requires { ⌜ (n ≤ 128) × (at + n ≤ length (now s)) ⌝ }
     ensures { λ r. ⌜ Added sum n (λ i. getD (now (s .entry)) (at + i) 0) r ⌝ }
 {
@@ -21,7 +24,7 @@ fn add_bytes(sum: [u8; 128], s: &[u8], at: usize, n: usize) -> [u8; 128]
 }
 
 // The block `sum` with n bytes from `at` on of the run at each place XORed in.
-fn add_runs(sum: [u8; 128], s: &[u8], places: &[usize], at: usize, n: usize) -> [u8; 128]
+fn add_runs(sum: [u8; BLOCK], s: &[u8], places: &[usize], at: usize, n: usize) -> [u8; BLOCK]
     requires { ⌜ (n ≤ 128) × Inside (length (now s)) (now places) (at + n) ⌝ }
     ensures { λ r. ⌜ Added sum n (λ i. sumAt (now (s .entry)) (now (places .entry)) (at + i)) r ⌝ }
 {
@@ -36,21 +39,21 @@ fn add_runs(sum: [u8; 128], s: &[u8], places: &[usize], at: usize, n: usize) -> 
 }
 
 // A block with n bytes from `at` on of the XOR of the runs at the places. It starts from the last run, which saves XORing it into zeros.
-fn sum_runs(s: &[u8], places: &[usize], at: usize, n: usize) -> [u8; 128]
+fn sum_runs(s: &[u8], places: &[usize], at: usize, n: usize) -> [u8; BLOCK]
     requires { ⌜ (n ≤ 128) × Inside (length (now s)) (now places) (at + n) ⌝ }
     ensures { λ r. ⌜ ((i : ℕ) → i < n → getD r i 0 ≡ sumAt (now (s .entry)) (now (places .entry)) (at + i)) ⌝ }
 {
     let count = places.len();
     if count == 0 {
-        return [0u8; 128];
+        return [0u8; BLOCK];
     }
     let last = count - 1;
-    let own = add_bytes([0u8; 128], s, places[last] + at, n);
+    let own = add_bytes([0u8; BLOCK], s, places[last] + at, n);
     add_runs(own, s, &places[..last], at, n)
 }
 
 // Stores n bytes of a block in s, from `at` on.
-fn put_bytes(s: &mut [u8], at: usize, block: [u8; 128], n: usize)
+fn put_bytes(s: &mut [u8], at: usize, block: [u8; BLOCK], n: usize)
     requires { ⌜ (n ≤ 128) × (at + n ≤ length (now s)) ⌝ }
     ensures { λ _. ⌜ Put (now (s .entry)) at n (λ i. getD block i 0) (now (s .exit)) ⌝ }
 {
@@ -62,7 +65,7 @@ fn put_bytes(s: &mut [u8], at: usize, block: [u8; 128], n: usize)
 }
 
 // Whether the first n bytes of a block are all zero.
-fn all_zero(block: [u8; 128], n: usize) -> bool
+fn all_zero(block: [u8; BLOCK], n: usize) -> bool
     requires { ⌜ n ≤ 128 ⌝ }
     ensures { λ r. ⌜ Says ((i : ℕ) → i < n → getD block i 0 ≡ 0) r ⌝ }
 {
@@ -80,7 +83,7 @@ fn block_at(done: usize, n: usize) -> usize
     requires { ⌜ (128 ≤ n) × (done < n) ⌝ }
     ensures { λ r. ⌜ (r ≤ done) × (r + 128 ≤ n) × (done < r + 128) ⌝ }
 {
-    if n - 128 < done { n - 128 } else { done }
+    if n - BLOCK < done { n - BLOCK } else { done }
 }
 
 // Sets n bytes of the run at `to`, from `at` on, to the XOR of the runs at the places.
@@ -88,7 +91,7 @@ fn put_block(s: &mut [u8], places: &[usize], to: usize, at: usize, n: usize)
     requires { ⌜ (n ≤ 128) × Inside (length (now s)) (now places) (at + n) × (to + at + n ≤ length (now s)) ⌝ }
     ensures { λ _. ⌜ Put (now (s .entry)) (to + at) n (λ t. sumAt (now (s .entry)) (now (places .entry)) (at + t)) (now (s .exit)) ⌝ }
 {
-    let sum = add_runs([0u8; 128], s, places, at, n);
+    let sum = add_runs([0u8; BLOCK], s, places, at, n);
     put_bytes(s, to + at, sum, n);
 }
 
@@ -97,15 +100,15 @@ pub fn put_sum(s: &mut [u8], places: &[usize], to: usize, at: usize, n: usize)
     requires { ⌜ Inside (length (now s)) (now places) (at + n) × Apart (now places) to (at + n) × (to + at + n ≤ length (now s)) ⌝ }
     ensures { λ _. ⌜ Put (now (s .entry)) (to + at) n (λ t. sumAt (now (s .entry)) (now (places .entry)) (at + t)) (now (s .exit)) ⌝ }
 {
-    if n < 128 {
+    if n < BLOCK {
         put_block(s, places, to, at, n);
         return;
     }
     let mut done = 0;
     while done < n {
         let next = block_at(done, n);
-        put_block(s, places, to, at + next, 128);
-        done = next + 128;
+        put_block(s, places, to, at + next, BLOCK);
+        done = next + BLOCK;
     }
 }
 
@@ -114,7 +117,7 @@ fn is_sum_block(s: &[u8], places: &[usize], to: usize, at: usize, n: usize) -> b
     requires { ⌜ (n ≤ 128) × Inside (length (now s)) (now places) (at + n) × (to + at + n ≤ length (now s)) ⌝ }
     ensures { λ r. ⌜ Says ((t : ℕ) → t < n → withOwn (now (s .entry)) (now (places .entry)) to (at + t) ≡ 0) r ⌝ }
 {
-    let own = add_bytes([0u8; 128], s, to + at, n);
+    let own = add_bytes([0u8; BLOCK], s, to + at, n);
     let sum = add_runs(own, s, places, at, n);
     all_zero(sum, n)
 }
@@ -124,16 +127,16 @@ pub fn is_sum(s: &[u8], places: &[usize], to: usize, at: usize, n: usize) -> boo
     requires { ⌜ Inside (length (now s)) (now places) (at + n) × (to + at + n ≤ length (now s)) ⌝ }
     ensures { λ r. ⌜ Says ((t : ℕ) → t < n → withOwn (now (s .entry)) (now (places .entry)) to (at + t) ≡ 0) r ⌝ }
 {
-    if n < 128 {
+    if n < BLOCK {
         return is_sum_block(s, places, to, at, n);
     }
     let mut done = 0;
     while done < n {
         let next = block_at(done, n);
-        if !is_sum_block(s, places, to, at + next, 128) {
+        if !is_sum_block(s, places, to, at + next, BLOCK) {
             return false;
         }
-        done = next + 128;
+        done = next + BLOCK;
     }
     true
 }
@@ -152,16 +155,16 @@ pub fn sums_to_zero(s: &[u8], places: &[usize], n: usize) -> bool
     requires { ⌜ Inside (length (now s)) (now places) n ⌝ }
     ensures { λ r. ⌜ Says ((t : ℕ) → t < n → sumAt (now (s .entry)) (now (places .entry)) t ≡ 0) r ⌝ }
 {
-    if n < 128 {
+    if n < BLOCK {
         return is_zero_block(s, places, 0, n);
     }
     let mut done = 0;
     while done < n {
         let at = block_at(done, n);
-        if !is_zero_block(s, places, at, 128) {
+        if !is_zero_block(s, places, at, BLOCK) {
             return false;
         }
-        done = at + 128;
+        done = at + BLOCK;
     }
     true
 }
@@ -180,15 +183,15 @@ pub fn put_sum_from(d: &mut [u8], to: usize, s: &[u8], places: &[usize], at: usi
     requires { ⌜ Inside (length (now s)) (now places) (at + n) × (to + n ≤ length (now d)) × (at + n < 2 ^ 64) ⌝ }
     ensures { λ _. ⌜ Put (now (d .entry)) to n (λ t. sumAt (now (s .entry)) (now (places .entry)) (at + t)) (now (d .exit)) ⌝ }
 {
-    if n < 128 {
+    if n < BLOCK {
         put_block_from(d, to, s, places, at, n);
         return;
     }
     let mut done = 0;
     while done < n {
         let next = block_at(done, n);
-        put_block_from(d, to + next, s, places, at + next, 128);
-        done = next + 128;
+        put_block_from(d, to + next, s, places, at + next, BLOCK);
+        done = next + BLOCK;
     }
 }
 
@@ -200,15 +203,15 @@ pub fn put_sum_whole(d: &mut [u8], s: &[u8], places: &[usize], at: usize)
         (now (d .exit)) ⌝ }
 {
     let n = d.len();
-    if n < 128 {
+    if n < BLOCK {
         put_block_from(d, 0, s, places, at, n);
         return;
     }
     let mut done = 0;
     while done < n {
         let next = block_at(done, n);
-        put_block_from(d, next, s, places, at + next, 128);
-        done = next + 128;
+        put_block_from(d, next, s, places, at + next, BLOCK);
+        done = next + BLOCK;
     }
 }
 
@@ -227,7 +230,7 @@ pub fn sum_byte(s: &[u8], places: &[usize], t: usize) -> u8
 }
 
 // The first of n bytes of a block that is not zero; n where all are.
-fn nonzero_byte(block: [u8; 128], n: usize) -> usize
+fn nonzero_byte(block: [u8; BLOCK], n: usize) -> usize
     requires { ⌜ n ≤ 128 ⌝ }
     ensures { λ r. ⌜ NonzeroAt (λ i. getD block i 0) n r ⌝ }
 {
@@ -259,12 +262,12 @@ pub fn nonzero_at(s: &[u8], places: &[usize], at: usize, n: usize) -> usize
     ensures { λ r. ⌜ NonzeroAt (λ t. sumAt (now (s .entry)) (now (places .entry)) (at + t)) n r ⌝ }
 {
     let mut done = 0;
-    while 128 <= n - done {
-        let i = nonzero_block(s, places, at + done, 128);
-        if i < 128 {
+    while BLOCK <= n - done {
+        let i = nonzero_block(s, places, at + done, BLOCK);
+        if i < BLOCK {
             return done + i;
         }
-        done += 128;
+        done += BLOCK;
     }
     done + nonzero_block(s, places, at + done, n - done)
 }
@@ -274,7 +277,7 @@ fn add_block_sum(d: &mut [u8], to: usize, s: &[u8], places: &[usize], at: usize,
     requires { ⌜ (n ≤ 128) × Inside (length (now s)) (now places) (at + n) × (to + n ≤ length (now d)) ⌝ }
     ensures { λ _. ⌜ Put (now (d .entry)) to n (addedTo (now (d .entry)) to (now (s .entry)) (now (places .entry)) at) (now (d .exit)) ⌝ }
 {
-    let own = add_bytes([0u8; 128], d, to, n);
+    let own = add_bytes([0u8; BLOCK], d, to, n);
     let sum = add_runs(own, s, places, at, n);
     put_bytes(d, to, sum, n);
 }
@@ -288,9 +291,9 @@ pub fn add_sum(d: &mut [u8], to: usize, s: &[u8], places: &[usize], at: usize, n
         return;
     }
     let mut done = 0;
-    while 128 <= n - done {
-        add_block_sum(d, to + done, s, places, at + done, 128);
-        done += 128;
+    while BLOCK <= n - done {
+        add_block_sum(d, to + done, s, places, at + done, BLOCK);
+        done += BLOCK;
     }
     if done < n {
         add_block_sum(d, to + done, s, places, at + done, n - done);
@@ -302,7 +305,7 @@ fn add_block_difference(s: &mut [u8], to: usize, from: usize, new: &[u8], at: us
     requires { ⌜ (n ≤ 128) × (to + at + n ≤ length (now s)) × (from + at + n ≤ length (now s)) × (at + n ≤ length (now new)) ⌝ }
     ensures { λ _. ⌜ Put (now (s .entry)) (to + at) n (λ t. changedBy (now (s .entry)) to from (now (new .entry)) (at + t)) (now (s .exit)) ⌝ }
 {
-    let parity = add_bytes([0u8; 128], s, to + at, n);
+    let parity = add_bytes([0u8; BLOCK], s, to + at, n);
     let with_old = add_bytes(parity, s, from + at, n);
     let with_new = add_bytes(with_old, new, at, n);
     put_bytes(s, to + at, with_new, n);
@@ -315,9 +318,9 @@ pub fn add_difference(s: &mut [u8], to: usize, from: usize, new: &[u8])
 {
     let n = new.len();
     let mut done = 0;
-    while 128 <= n - done {
-        add_block_difference(s, to, from, new, done, 128);
-        done += 128;
+    while BLOCK <= n - done {
+        add_block_difference(s, to, from, new, done, BLOCK);
+        done += BLOCK;
     }
     add_block_difference(s, to, from, new, done, n - done);
 }
