@@ -1,12 +1,33 @@
 // The job program: reads a rebuild job from standard input and writes the answer to standard output. Where it can't read or write it says so on
 // standard error.
+ghost use lib.ListN.{length};
+ghost use Rattle.job.specs.Input.{Within};
 use libc::STDIN_FILENO;
 use libc::STDOUT_FILENO;
 
-// Whether reading failed, where fewer bytes came than were asked for: if the input has ended, one more read does not fail.
-fn has_failed() -> bool {
-    let mut next = [0u8; 1];
-    libc::read(STDIN_FILENO, &mut next) < 0
+// What came: so many bytes, or a read that failed.
+enum Input {
+    Bytes(usize),
+    Failed,
+}
+
+// Reads standard input until it ends or the lent bytes are full. No read follows one that failed: what came later would join what was cut off.
+fn read_input(input: &mut [u8]) -> Input
+    ensures { λ r. ⌜ Within (length (now (input .exit))) r ⌝ }
+{
+    let mut done = 0;
+    while done < input.len() {
+        let got = libc::read(STDIN_FILENO, &mut input[done..]);
+        if got < 0 {
+            return Input::Failed;
+        }
+        let more = io::count(got, &input[done..]);
+        if more == 0 {
+            break;
+        }
+        done += more;
+    }
+    Input::Bytes(done)
 }
 
 // Writes the answer to the job that these bytes are. No answer is longer than 32,775 bytes.
@@ -18,13 +39,12 @@ fn answer(job: &[u8]) {
     }
 }
 
-// No job is longer than 36,883 bytes: one byte more is read, so that a longer input is seen to be none.
+// No job is longer than 36,883 bytes: one byte more is read, so that a longer input is seen to be none. A job that can't be read whole is not answered.
 fn main() {
     let mut input = [0u8; 36884];
-    let n = io::read_full(STDIN_FILENO, &mut input);
-    if n < 36884 && has_failed() {
+    let Input::Bytes(n) = read_input(&mut input) else {
         os::fail(b"standard input");
         return;
-    }
+    };
     answer(&input[..n]);
 }

@@ -4,11 +4,9 @@ use Rattle.codes.proofs.Shapes.{one-of, none-of}
 use Rattle.codes.proofs.is_listed.Statement.{statement}
 use Rattle.codes.proofs.is_listed.Tie as tie
 
--- src/lib.rt:35:1
 returns : tie.Need-returns
 returns c = sym (one-of _ (c .match .keys1))
 
--- src/lib.rt:35:1
 returns-2 : tie.Need-returns-2
 returns-2 c = sym (none-of _ (c .match .rest .1))
 

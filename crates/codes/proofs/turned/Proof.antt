@@ -7,15 +7,12 @@ use borrow.Author.Needs.{needs}
 use Rattle.codes.proofs.turned.Statement.{statement}
 use Rattle.codes.proofs.turned.Tie as tie
 
--- src/lib.rt:98:16
 add-next : tie.Need-add-next
 add-next c = search needs
 
--- src/lib.rt:94:1
 returns : tie.Need-returns
 returns c = wrapped _ _ (c .if1 .taken) (omega arith)
 
--- src/lib.rt:94:1
 returns-2 : tie.Need-returns-2
 returns-2 c = sym (mod-eq-of-lt (c .if1 .left))
 

@@ -15,35 +15,27 @@ Inv-loop s at n added₀ i₀ added i = (i ≤ n) × (length added₀ ≡ 128) �
 abbrev μ-loop : tie.MeasureT-loop
 μ-loop s at n added₀ i₀ added i = n - i
 
--- src/lib.rt:17:5
 loop-holds : tie.Need-loop-holds Inv-loop μ-loop
 loop-holds c = (omega arith, search needs, added-none _ _)
 
--- src/lib.rt:18:20
 array-read-added : tie.Need-array-read-added Inv-loop μ-loop
 array-read-added c = search needs
 
--- src/lib.rt:18:33
 add-added : tie.Need-add-added Inv-loop μ-loop
 add-added c = search needs
 
--- src/lib.rt:18:31
 shared-slice-read-added : tie.Need-shared-slice-read-added Inv-loop μ-loop
 shared-slice-read-added c = search needs
 
--- src/lib.rt:18:9
 array-write-added : tie.Need-array-write-added Inv-loop μ-loop
 array-write-added c = search needs
 
--- src/lib.rt:19:9
 add-i : tie.Need-add-i Inv-loop μ-loop
 add-i c = search needs
 
--- src/lib.rt:17:5
 loop-less : tie.Need-loop-less Inv-loop μ-loop
 loop-less c = search needs
 
--- src/lib.rt:17:5
 loop-again : tie.Need-loop-again Inv-loop μ-loop
 loop-again c = (
   omega arith,
@@ -51,7 +43,6 @@ loop-again c = (
   added-more _ _ _ _ _ (search needs) (c .before .before .loop .inv .2) refl,
 )
 
--- src/lib.rt:11:1
 returns : tie.Need-returns Inv-loop μ-loop
 returns c =
     let done = c .before .loop .inv .2 in

@@ -16,43 +16,34 @@ Inv-loop s places at n added₀ k₀ added k =
 abbrev μ-loop : tie.MeasureT-loop
 μ-loop s places at n added₀ k₀ added k = length places - k
 
--- src/lib.rt:31:5
 loop-holds : tie.Need-loop-holds Inv-loop μ-loop
 loop-holds c = (omega arith, search needs, runs-none (c .before .before .args .s .now) (c .before .before .args .places .now) (c .before .before .args .sum) (c .before .before .args .n) (c .before .before .args .at))
 
--- src/lib.rt:32:40
 mul-add-bytes : tie.Need-mul-add-bytes Inv-loop μ-loop
 mul-add-bytes c = search needs
 
--- src/lib.rt:32:40
 shared-slice-read-add-bytes : tie.Need-shared-slice-read-add-bytes Inv-loop μ-loop
 shared-slice-read-add-bytes c = search needs
 
--- src/lib.rt:32:40
 add-add-bytes : tie.Need-add-add-bytes Inv-loop μ-loop
 add-add-bytes c = omega (arith, c .before .before .before .before .before .pre .1 .ends (c .before .before .loop .k) (omega arith))
 
--- src/lib.rt:32:13
 add-bytes-requires : tie.Need-add-bytes-requires Inv-loop μ-loop
 add-bytes-requires c κs =
     (omega arith, omega (arith, c .before .before .before .before .before .pre .1 .ends (c .before .before .loop .k) (omega arith)))
 
--- src/lib.rt:34:9
 add-k : tie.Need-add-k Inv-loop μ-loop
 add-k c = search needs
 
--- src/lib.rt:31:5
 loop-less : tie.Need-loop-less Inv-loop μ-loop
 loop-less c = search needs
 
--- src/lib.rt:31:5
 loop-again : tie.Need-loop-again Inv-loop μ-loop
 loop-again c =
     let a = c .before .before .before .before .before .before .args in
     let turn = c .before .before .before .loop in
     (omega arith, search needs, runs-more (a .s .now) (a .places .now) (a .sum) (turn .added) _ (a .n) (a .at) (turn .k) (turn .inv .2) (c .add-bytes .ensures))
 
--- src/lib.rt:25:1
 returns : tie.Need-returns Inv-loop μ-loop
 returns c =
     let a = c .before .before .before .before .args in

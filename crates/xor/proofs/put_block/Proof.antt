@@ -6,23 +6,18 @@ use borrow.Author.Needs.{needs}
 use Rattle.xor.proofs.put_block.Statement.{statement}
 use Rattle.xor.proofs.put_block.Tie as tie
 
--- src/lib.rt:78:9
 add-runs-requires : tie.Need-add-runs-requires
 add-runs-requires c κs = search needs
 
--- src/lib.rt:79:18
 add-put-bytes : tie.Need-add-put-bytes
 add-put-bytes c = search needs
 
--- src/lib.rt:79:5
 put-bytes-requires : tie.Need-put-bytes-requires
 put-bytes-requires c κs = search needs
 
--- src/lib.rt:74:1
 same-length : tie.Need-same-length
 same-length c = search needs
 
--- src/lib.rt:74:1
 returns : tie.Need-returns
 returns c =
     let a = c .before .before .before .before .before .before .before .before .args in

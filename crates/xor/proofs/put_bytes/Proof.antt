@@ -15,39 +15,30 @@ Inv-loop s₀ at n block i₀ s i = (i ≤ n) × Put s₀ at i (λ k. getD block
 abbrev μ-loop : tie.MeasureT-loop
 μ-loop s₀ at n block i₀ s i = n - i
 
--- src/lib.rt:45:5
 loop-holds : tie.Need-loop-holds Inv-loop μ-loop
 loop-holds c = (omega arith, put-none _ _ _)
 
--- src/lib.rt:46:21
 array-read-s : tie.Need-array-read-s Inv-loop μ-loop
 array-read-s c = search needs
 
--- src/lib.rt:46:11
 add-s : tie.Need-add-s Inv-loop μ-loop
 add-s c = search needs
 
--- src/lib.rt:46:9
 slice-write-s : tie.Need-slice-write-s Inv-loop μ-loop
 slice-write-s c = let w = c .before .loop .inv .1 .long in omega arith
 
--- src/lib.rt:47:9
 add-i : tie.Need-add-i Inv-loop μ-loop
 add-i c = search needs
 
--- src/lib.rt:45:5
 loop-less : tie.Need-loop-less Inv-loop μ-loop
 loop-less c = search needs
 
--- src/lib.rt:45:5
 loop-again : tie.Need-loop-again Inv-loop μ-loop
 loop-again c = (omega arith, put-more _ _ _ _ _ _ (let w = c .before .loop .inv .1 .long in omega arith) (c .before .loop .inv .1) refl)
 
--- src/lib.rt:40:1
 same-length : tie.Need-same-length Inv-loop μ-loop
 same-length c = c .before .loop .inv .1 .long
 
--- src/lib.rt:40:1
 returns : tie.Need-returns Inv-loop μ-loop
 returns c = put-end _ _ _ _ _ _ (c .before .loop .inv .1) (omega arith)
 
