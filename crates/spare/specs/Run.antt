@@ -2,9 +2,9 @@
 use mathlib.Core.Path.{_≡_}
 use mathlib.Core.Logic.{_⊎_}
 use mathlib.Core.List.{List}
-use mathlib.Core.Bool.{cond, not, _&&_}
+use mathlib.Core.Bool.{Bool, cond, not, _&&_}
 use Prim.Native.Nat.{ℕ, _+_, _-_, _*_, _≤_, _<_, min}
-use lib.Dec.{eqb}
+use lib.Dec.{eqb, leb, ltb}
 use lib.ListN.{length, getD}
 use Rattle.xor.specs.Xor.{xors}
 use Rattle.codes.specs.declared.Shape.{Shape}
@@ -35,7 +35,11 @@ pub record RowsRebuilt (s : Shape) (k plan first n : ℕ) (stripe old new : List
   pub rebuilt : (i : ℕ) → first ≤ i → i < first + n → (t : ℕ) → t < s .cell → spareByte s new i t ≡ rebuiltByte s k plan stripe i t
   pub kept : (i : ℕ) → (i < first) ⊎ (first + n ≤ i) → (t : ℕ) → t < s .cell → spareByte s new i t ≡ spareByte s old i t
 
--- the rows that a run rebuilds: the smaller of the budget and of the rows left
+-- whether a run of a budget takes row i: it is one of so many rows from the first on
+unfoldable pub takesRow : ℕ → ℕ → ℕ → Bool
+takesRow first budget i = leb first i && ltb i (first + budget)
+
+-- how many rows a run rebuilds: the smaller of the budget and of the rows left
 unfoldable pub rowsRun : Shape → ℕ → ℕ → ℕ
 rowsRun s first budget = min budget (rows s - first)
 

@@ -1,34 +1,36 @@
--- Runs by plan one after the other: the same stripe and column, each with its own plan, first row and budget.
+-- Runs by plan one after the other, of one lost column: each with its own stripe, plan, first row and budget.
 use mathlib.Core.Path.{_≡_}
 use mathlib.Core.List.{List, [], _∷_}
-use mathlib.Core.Bool.{Bool, false, _&&_, _||_}
-use Prim.Native.Nat.{ℕ, _+_}
-use lib.Dec.{leb, ltb}
+use mathlib.Core.Bool.{Bool, false, _||_}
+use Prim.Native.Nat.{ℕ}
 use Rattle.codes.specs.declared.Shape.{Shape}
 use Rattle.codes.specs.declared.Counted.the-variants.{Count}
-use Rattle.spare.specs.Run.{rowsRun, RunsByPlan}
+use Rattle.codes.specs.Agree.{Agree, callersColumns}
+use Rattle.spare.specs.Run.{takesRow, RunsByPlan}
 
--- the plan, the first row and the budget of one run
+-- the stripe that one run is lent, its plan, its first row and its budget
 pub record Turn : Type 0 where
+  pub stripe : List ℕ
   pub plan : ℕ
   pub first : ℕ
   pub budget : ℕ
 
 -- one run that was not refused
-pub record Ran (s : Shape) (k : ℕ) (stripe : List ℕ) (turn : Turn) (old new : List ℕ) : Type 0 where
+pub record Ran (s : Shape) (k : ℕ) (turn : Turn) (old new : List ℕ) : Type 0 where
   pub count : ℕ
-  pub runs : RunsByPlan s k (turn .plan) (turn .first) (turn .budget) stripe old new (Count count)
+  pub runs : RunsByPlan s k (turn .plan) (turn .first) (turn .budget) (turn .stripe) old new (Count count)
 
 -- the runs of a list, one after the other: each starts from the spare that the one before it left
-abbrev pub Runs : Shape → ℕ → List ℕ → List Turn → List ℕ → List ℕ → Type 0
-Runs s k stripe [] old new = new ≡ old
-Runs s k stripe (turn ∷ turns) old new = (mid : List ℕ) × Ran s k stripe turn old mid × Runs s k stripe turns mid new
+abbrev pub Runs : Shape → ℕ → List Turn → List ℕ → List ℕ → Type 0
+Runs s k [] old new = new ≡ old
+Runs s k (turn ∷ turns) old new = (mid : List ℕ) × Ran s k turn old mid × Runs s k turns mid new
 
--- whether row i is one of the rows that a run rebuilds
-unfoldable pub inTurn : Shape → Turn → ℕ → Bool
-inTurn s turn i = leb (turn .first) i && ltb i (turn .first + rowsRun s (turn .first) (turn .budget))
+-- every stripe of a list of runs agrees with x beside the column at place k
+abbrev pub AllAgree : Shape → ℕ → List Turn → List ℕ → Type 0
+AllAgree s k [] x = Unit {0}
+AllAgree s k (turn ∷ turns) x = Agree s (callersColumns s k k) (turn .stripe) x × AllAgree s k turns x
 
--- whether some run of a list rebuilds row i
-unfoldable pub covers : Shape → List Turn → ℕ → Bool
-covers s [] i = false
-covers s (turn ∷ turns) i = inTurn s turn i || covers s turns i
+-- whether some run of a list takes row i
+unfoldable pub covers : List Turn → ℕ → Bool
+covers [] i = false
+covers (turn ∷ turns) i = takesRow (turn .first) (turn .budget) i || covers turns i
