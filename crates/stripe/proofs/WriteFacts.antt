@@ -1,4 +1,5 @@
--- What follows for a small write: an encoded stripe stays encoded, with the new cell in place; one content and one count; how many parity cells depend on a position.
+-- What follows for a small write: an encoded stripe stays encoded, with the new cell in place; one content and one count; how many parity cells depend on
+-- a position, and that no other cell but the data cell changes.
 use mathlib.Core.Path.{_≡_, sym, ap, ap₂, _∙_}
 use mathlib.Core.Logic.{_≢_}
 use mathlib.Core.List.{List}
@@ -12,14 +13,15 @@ use Rattle.xor.proofs.Algebra.{⊕-zero, ⊕-cancel}
 use Rattle.xor.proofs.Sets.{count-same}
 use Rattle.codes.specs.declared.Shape.{Shape}
 use Rattle.codes.specs.Shape.{cells, cellNumber, stripeLength, WellFormed}
-use Rattle.codes.specs.Encoded.{byteAt, parityCell, isParity, Encoded}
-use Rattle.codes.specs.Depends.{DataCell}
+use Rattle.codes.specs.Encoded.{byteAt, parityCell, isParity, Encoded, Solves}
+use Rattle.codes.specs.Depends.{DataCell, unitOf}
+use Rattle.codes.proofs.Shapes.{by-code}
 use Rattle.codes.proofs.Ordered.{ordered}
 use Rattle.codes.proofs.Parity.{sum-same, same-bytes}
 use Rattle.codes.proofs.Solutions.{plus, sum-plus}
-use Rattle.codes.proofs.Units.{unit-count}
+use Rattle.codes.proofs.Units.{unit-own, unit-data, unit-scaled, unit-count}
 use Rattle.codes.proofs.Sizes.{Sized, rdp-size, hcode-size, xcode-size}
-use Rattle.stripe.specs.Write.{Written, Depending}
+use Rattle.stripe.specs.Write.{Written, Alone, Depending}
 use Rattle.stripe.proofs.Encoding.{one-solution, same-data}
 use Rattle.stripe.proofs.Writing.{depending}
 
@@ -46,14 +48,22 @@ module _ (s : Shape) (w : WellFormed s) (c : ℕ) (inside : c < cells s) (old by
 -- ---- one count and one content
 
 module _ (s : Shape) (w : WellFormed s) (c : ℕ) where
+  -- solutions that are the same at c, and 0 in all other data, are the same
+  alone-same : (f g : ℕ → ℕ) → Solves s f → Solves s g → f c ≡ g c
+      → ((k : ℕ) → k < cells s → isParity s k ≡ false → k ≢ c → f k ≡ 0) → ((k : ℕ) → k < cells s → isParity s k ≡ false → k ≢ c → g k ≡ 0)
+      → (k : ℕ) → k < cells s → f k ≡ g k
+  alone-same f g hf hg own zf zg =
+      one-solution s w f g hf hg (λ k l p. by-equal k c (λ e. ap f e ∙ own ∙ ap g (sym e)) (λ n. zf k l p n ∙ sym (zg k l p n)))
+
+  one-unit : (f g : ℕ → ℕ) → Alone s c f → Alone s c g → (k : ℕ) → k < cells s → f k ≡ g k
+  one-unit f g a b = alone-same f g (a .holds) (b .holds) (a .own ∙ sym (b .own)) (a .zeros) (b .zeros)
+
   pub one-count : (m n : ℕ) → Depending s c m → Depending s c n → m ≡ n
   one-count m n a b =
-      a .size ∙ count-same (cells s) (λ k. isParity s k && not (eqb (a .unit k) 0)) (λ k. isParity s k && not (eqb (b .unit k) 0)) (λ k l. ap (λ (x : ℕ). isParity s k && not (eqb x 0)) (units k l)) ∙ sym (b .size)
-    where
-      units : (k : ℕ) → k < cells s → a .unit k ≡ b .unit k
-      units =
-          one-solution s w (a .unit) (b .unit) (a .alone .holds) (b .alone .holds)
-          (λ k l p. by-equal k c (λ e. ap (a .unit) e ∙ a .alone .own ∙ sym (ap (b .unit) e ∙ b .alone .own)) (λ n. a .alone .zeros k l p n ∙ sym (b .alone .zeros k l p n)))
+      a .size
+      ∙ count-same (cells s) (λ k. isParity s k && not (eqb (a .unit k) 0)) (λ k. isParity s k && not (eqb (b .unit k) 0))
+      (λ k l. ap (λ (x : ℕ). isParity s k && not (eqb x 0)) (one-unit (a .unit) (b .unit) (a .alone) (b .alone) k l))
+      ∙ sym (b .size)
 
   pub one-write : (old bytes x y : List ℕ) → length old ≡ stripeLength s → Written s c old bytes x → Written s c old bytes y → x ≡ y
   one-write old bytes x y long a b =
@@ -70,22 +80,52 @@ module _ (s : Shape) (w : WellFormed s) (c : ℕ) where
           })
           (a .alone .long) (b .alone .long)
 
--- ---- how many parity cells depend on a position
+-- ---- which cells change, and how many parity cells depend on a position
 
-module _ (s : Shape) (w : WellFormed s) (i j : ℕ) (cell : DataCell s i j) (n : ℕ) (h : Depending s (cellNumber s i j) n) where
+module _ (s : Shape) (w : WellFormed s) (i j : ℕ) (cell : DataCell s i j) where
+  abbrev c : ℕ
+  c = cellNumber s i j
+
+  -- some set of equations has the parity cells that depend on it
+  sized : (n : ℕ) × Sized s c n
+  sized = by-code s w (λ e. (_, rdp-size s w i j cell e)) (λ e. (_, hcode-size s w i j cell e)) (λ e. (_, xcode-size s w i j cell e))
+
+  -- Only the data cell and the parity cells that depend on it change: a cell that stays 0 where 1 is put alone at c and encoded is as it was
+  pub others-stay : (old bytes new : List ℕ) → Written s c old bytes new → (unit : ℕ → ℕ) → Alone s c unit
+      → (k : ℕ) → k < cells s → unit k ≡ 0 → (t : ℕ) → t < s .cell → byteAt s new k t ≡ byteAt s old k t
+  others-stay old bytes new h unit alone k lk zero t lt =
+      h .sum k lk t lt ∙ ap (λ (y : ℕ). byteAt s old k t ⊕ y) (scaled k lk ∙ ap (λ (u : ℕ). cond (eqb u 1) x 0) (sym (one-unit s w c unit u alone u-alone k lk) ∙ zero)) ∙ ⊕-zero (byteAt s old k t)
+    where
+      m : ℕ
+      m = sized .1 .set
+
+      u : ℕ → ℕ
+      u = unitOf s c m
+
+      x : ℕ
+      x = byteAt s old c t ⊕ getD bytes t 0
+
+      u-alone : Alone s c u
+      u-alone = record { own = unit-own s w c m (cell .plain); zeros = λ n l p e. unit-data s w c m (cell .plain) n p e; holds = sized .1 .depends .solves }
+
+      scaled : (n : ℕ) → n < cells s → byteAt s (h .difference) n t ≡ cond (eqb (u n) 1) x 0
+      scaled =
+          alone-same s w c (λ n. byteAt s (h .difference) n t) (λ n. cond (eqb (u n) 1) x 0) (λ q l. h .alone .encoded .holds q l t lt) (unit-scaled s c m x (sized .1 .depends .solves))
+          (h .alone .own t lt ∙ ap (λ (v : ℕ). cond (eqb v 1) x 0) (sym (u-alone .own))) (λ n l p e. h .alone .zeros n l p e t lt) (λ n l p e. ap (λ (v : ℕ). cond (eqb v 1) x 0) (u-alone .zeros n l p e))
+
   -- as many as the set of their equations has members
-  by-size : (m : ℕ) → Sized s (cellNumber s i j) m → n ≡ m
-  by-size m z =
-      one-count s w (cellNumber s i j) n m h
-      (depending s w (cellNumber s i j) (cell .plain) (z .set) (z .depends) m (unit-count s w (cellNumber s i j) (z .set) (cell .plain) ∙ z .size))
+  by-size : (n : ℕ) → Depending s c n → (m : ℕ) → Sized s c m → n ≡ m
+  by-size n h m z =
+      one-count s w c n m h
+      (depending s w c (cell .plain) (z .set) (z .depends) m (unit-count s w c (z .set) (cell .plain) ∙ z .size))
 
   -- RDP: 2 where i = 0 or i + j = p - 1, otherwise 3
-  pub rdp-count : s .code ≡ 1 → n ≡ cond (eqb i 0 || eqb (i + j) (s .p - 1)) 2 3
-  rdp-count is-rdp = by-size (cond (eqb i 0 || eqb (i + j) (s .p - 1)) 2 3) (rdp-size s w i j cell is-rdp)
+  pub rdp-count : (n : ℕ) → Depending s c n → s .code ≡ 1 → n ≡ cond (eqb i 0 || eqb (i + j) (s .p - 1)) 2 3
+  rdp-count n h is-rdp = by-size n h (cond (eqb i 0 || eqb (i + j) (s .p - 1)) 2 3) (rdp-size s w i j cell is-rdp)
 
   -- H-Code and X-Code: always 2
-  pub hcode-count : s .code ≡ 2 → n ≡ 2
-  hcode-count is-hcode = by-size 2 (hcode-size s w i j cell is-hcode)
+  pub hcode-count : (n : ℕ) → Depending s c n → s .code ≡ 2 → n ≡ 2
+  hcode-count n h is-hcode = by-size n h 2 (hcode-size s w i j cell is-hcode)
 
-  pub xcode-count : s .code ≡ 3 → n ≡ 2
-  xcode-count is-xcode = by-size 2 (xcode-size s w i j cell is-xcode)
+  pub xcode-count : (n : ℕ) → Depending s c n → s .code ≡ 3 → n ≡ 2
+  xcode-count n h is-xcode = by-size n h 2 (xcode-size s w i j cell is-xcode)
