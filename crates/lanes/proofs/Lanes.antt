@@ -288,11 +288,15 @@ module _ (s : Shape) (w : WellFormed s) (list sets : List ℕ) where
 -- ---- what is mended, and what is not
 
 module _ (s : Shape) (list sets : List ℕ) (u : ℕ) (checks : List ℕ) (v : ℕ) (old : List ℕ) where
-  pub mends-not : (r : Bool) → Says ((t : ℕ) → t < s .cell → Passes s old v checks t) r → r ≡ false → Mends s list sets u checks v old 12 old
-  mends-not r h e = record { number = inr refl; twelve = λ n. (h .no e, refl); done = λ z. absurd (omega arith) }
+  -- filled exactly where the survivors pass
+  abbrev pub Either : Bool → List ℕ → Type 0
+  Either r new = ((r ≡ true) × Filled s list sets u 0 (s .cell) old new) ⊎ ((r ≡ false) × (new ≡ old))
 
-  pub mends-done : (new : List ℕ) (r : Bool) → Says ((t : ℕ) → t < s .cell → Passes s old v checks t) r → r ≡ true → Filled s list sets u 0 (s .cell) old new → Mends s list sets u checks v old 0 new
-  mends-done new r h e filled = record { number = inl refl; twelve = λ n. absurd (n refl); done = λ z. (h .yes e, filled) }
+  pub mends-done : (r : Bool) (new : List ℕ) → Says ((t : ℕ) → t < s .cell → Passes s old v checks t) r → Either r new → r ≡ true → Mends s list sets u checks v old 0 new
+  mends-done r new h e is = record { number = inl refl; twelve = λ n. absurd (n refl); done = λ z. (h .yes is, ⊎-elim (λ f. f .1) (λ n. clash is (n .0)) e) }
+
+  pub mends-not : (r : Bool) (new : List ℕ) → Says ((t : ℕ) → t < s .cell → Passes s old v checks t) r → Either r new → r ≡ false → Mends s list sets u checks v old 12 new
+  mends-not r new h e is = record { number = inr refl; twelve = λ n. (h .no is, ⊎-elim (λ f. clash (f .0) is) (λ n. n .1) e); done = λ z. absurd (omega arith) }
 
   pub mends-long : (answer : ℕ) (new : List ℕ) → Mends s list sets u checks v old answer new → length new ≡ length old
   mends-long answer new h = ⊎-elim (λ z. h .done z .1 .long) (λ z. ap length (h .twelve (λ e. omega arith) .1)) (h .number)

@@ -206,9 +206,9 @@ pub fn mend(
         (now (stripe .exit)) ⌝ }
 {
     let mut lanes = [0u8; LANES];
-    if !survivors_agree(shape, stripe, checks, v, 0, shape.cell, &mut lanes) {
-        return 12;
+    let agree = survivors_agree(shape, stripe, checks, v, 0, shape.cell, &mut lanes);
+    if agree {
+        fill(shape, stripe, listed, sets, lost, &mut lanes);
     }
-    fill(shape, stripe, listed, sets, lost, &mut lanes);
-    0
+    if agree { 0 } else { 12 }
 }

@@ -1,3 +1,2 @@
--- The laws behind the exported functions, and the table of examples.
+-- The laws behind the exported functions.
 pub mod Export
-pub mod Examples

@@ -1,5 +1,5 @@
 -- Every row of the table holds: one test that antt computes over the whole table, and a law that turns the test into each row's claim.
-use mathlib.Core.Path.{_≡_, refl, sym, _∙_, subst}
+use mathlib.Core.Path.{_≡_, refl, sym, ap, _∙_, subst}
 use mathlib.Core.List.{List, [], _∷_}
 use mathlib.Core.Bool.{Bool, true, false, not, _&&_, xor}
 use Prim.Native.Nat.{ℕ, _*_, _^_, _<_}
@@ -19,7 +19,7 @@ use Rattle.codes.specs.Shape.{listed, rows, columns, equations, cells, cellNumb
 use Rattle.codes.specs.Geometry.{columnOf, liesAt, cellAt, cellOf, callersCell, place}
 use Rattle.codes.specs.Equations.{equation}
 use Rattle.codes.specs.Encoded.{parityCell, sumsCell, byteAt, sumOver, parityByte, isParity, Encoded, fails, brokenEquations}
-use Rattle.codes.specs.Refusals.{order, applies, firstOf, refusal, shapeFaults, stripeFaults, writeFaults}
+use Rattle.codes.specs.Refusals.{order, applies, firstOf, refusal, shapeFaults, stripeFaults, writeFaults, cellsFaults}
 use Rattle.codes.specs.Holders.{holds}
 use Rattle.codes.specs.Depends.{WriteRight}
 use Rattle.codes.proofs.Refused.{accepted, write-accepted}
@@ -35,11 +35,12 @@ use Rattle.bad.specs.declared.BadColumn.{BadColumn}
 use Rattle.bad.specs.declared.BadColumn.the-variants.{Clean, Column, Unexplained, Refused}
 use Rattle.bad.specs.Bad.{Replaceable, badNumber, Finding}
 use Rattle.decide.proofs.Determined.{columns-determined}
+use Rattle.rebuild.specs.Rebuild.{Decides, undetermined, restored, RebuildsCells}
 use Rattle.rebuild.proofs.Computed.{outcome, stops, stops-undetermined, passes-determined, fits, fits-restores, unfit-none}
 use Rattle.plan.specs.Plan.{diagonal, chosen, readsCell, cellsRead, byRule, isAccepted}
 use Rattle.plan.specs.Refusals.{planFaults}
 use Rattle.spare.specs.Refusals.{spareFaults, runFaults}
-use Rattle.zijraduf.specs.Examples.{Claim, encoded, broken, written, undetermined, determined, found, planned, runRefused, Example, table, Claims, Holds, AllHold}
+use Rattle.table.specs.Examples.{Claim, encoded, broken, written, rebuildRefused, rebuilt, found, planned, runRefused, Example, emptySpare, table, Claims, Holds, AllHold}
 
 -- the difference put alone and encoded, byte t of it in cell k
 differing : Shape → ℕ → List ℕ → List ℕ → ℕ → ℕ → ℕ
@@ -67,19 +68,29 @@ finds s stripe (Column c) = any (equations s) (fails s stripe) && (not (wide str
 finds s stripe Unexplained = any (equations s) (fails s stripe) && not (any (columns s) (replaces s stripe))
 finds s stripe (Refused number) = false
 
+-- whether a rebuild of the cells that a list names is not refused for its numbers
+rightCells : Shape → List ℕ → List ℕ → Bool
+rightCells s stripe lost = eqb (refusal (cellsFaults s (length stripe) lost)) 0
+
+-- whether two stripes differ in some cell that isn't lost
+unlike : Shape → (ℕ → Bool) → List ℕ → List ℕ → Bool
+unlike s lost a b = any (cells s) (λ c. not (lost c) && any (s .cell) (λ t. not (eqb (byteAt s a c t) (byteAt s b c t))))
+
 claimed : Shape → List ℕ → Claim → Bool
 claimed s stripe encoded = not (any (equations s) (fails s stripe))
 claimed s stripe (broken n) = eqb (brokenEquations s stripe) n
 claimed s stripe (written row column bytes new n) =
     eqb (refusal (writeFaults s (length stripe) row column (length bytes))) 0
     && (eqb (length new) (length stripe) && (not (unwritten s (cellAt s row column) stripe bytes new) && eqb n (depending s (cellAt s row column))))
-claimed s stripe (undetermined lost) = stops (outcome s (named s lost))
-claimed s stripe (determined lost) = not (stops (outcome s (named s lost)))
+claimed s stripe (rebuildRefused lost number) = rightCells s stripe lost && (eqb number 11 && stops (outcome s (named s lost)))
+claimed s stripe (rebuilt lost new) =
+    rightCells s stripe lost
+    && (not (stops (outcome s (named s lost))) && (eqb (length new) (stripeLength s) && (not (wide new) && (not (any (equations s) (fails s new)) && not (unlike s (named s lost) stripe new)))))
 claimed s stripe (found finding) = finds s stripe finding
 claimed s stripe (planned k taken reads) =
     eqb (refusal (planFaults s k)) 0
     && (ltb taken (2 ^ rows s) && (not (any (rows s) (λ i. xor (bit i taken) (byRule s (columnOf s k) i))) && eqb reads (cellsRead s (columnOf s k) taken)))
-claimed s stripe (runRefused k plan number) = eqb (refusal (runFaults s (length stripe) (rows s * s .cell) k plan 0)) number
+claimed s stripe (runRefused k plan number) = not (eqb number 0) && eqb (refusal (runFaults s (length stripe) (length (emptySpare s)) k plan 0)) number
 
 module _ (s : Shape) (stripe : List ℕ) (row column : ℕ) (bytes new : List ℕ) (n : ℕ) (h : claimed s stripe (written row column bytes new n) ≡ true) where
   c : ℕ
@@ -95,8 +106,11 @@ module _ (s : Shape) (stripe : List ℕ) (row column : ℕ) (bytes new : List �
   last : (not (unwritten s c stripe bytes new) && eqb n (depending s c)) ≡ true
   last = and-right (eqb (length new) (length stripe)) (not (unwritten s c stripe bytes new) && eqb n (depending s c)) later
 
+  not-refused : refusal (writeFaults s (length stripe) row column (length bytes)) ≡ 0
+  not-refused = eqb-true _ 0 (and-left (eqb (refusal (writeFaults s (length stripe) row column (length bytes))) 0) (eqb (length new) (length stripe) && (not (unwritten s c stripe bytes new) && eqb n (depending s c))) tests)
+
   right : WriteRight s (length stripe) row (columnOf s column) (length bytes)
-  right = write-accepted s (length stripe) row column (length bytes) (eqb-true _ 0 (and-left (eqb (refusal (writeFaults s (length stripe) row column (length bytes))) 0) (eqb (length new) (length stripe) && (not (unwritten s c stripe bytes new) && eqb n (depending s c))) tests)) .1
+  right = write-accepted s (length stripe) row column (length bytes) not-refused .1
 
   inside : c < cells s
   unfolding c
@@ -177,6 +191,57 @@ found-number s stripe (Column c) h = refl
 found-number s stripe Unexplained h = refl
 found-number s stripe (Refused number) h = clash h refl
 
+module _ (s : Shape) (stripe : List ℕ) (w : WellFormed s) (lost : List ℕ) where
+  -- the numbers are right, so that only demand 3 decides
+  decided : (answer : ℕ) (new : List ℕ) → rightCells s stripe lost ≡ true → Decides s (named s lost) stripe answer new → RebuildsCells s lost stripe answer new
+  unfolding rightCells
+  decided answer new h d = record { refused = λ n. absurd (n (eqb-true (refusal (cellsFaults s (length stripe) lost)) 0 h)); decides = λ z. d }
+
+  is-refused : (number : ℕ) → claimed s stripe (rebuildRefused lost number) ≡ true → RebuildsCells s lost stripe number stripe
+  unfolding claimed
+  is-refused number h =
+      let later = and-right (rightCells s stripe lost) (eqb number 11 && stops (outcome s (named s lost))) h in
+      decided number stripe (and-left (rightCells s stripe lost) (eqb number 11 && stops (outcome s (named s lost))) h)
+      (undetermined (stops-undetermined s w (named s lost) (and-right (eqb number 11) (stops (outcome s (named s lost))) later))
+      (eqb-true number 11 (and-left (eqb number 11) (stops (outcome s (named s lost))) later)) refl)
+
+  module _ (new : List ℕ) (h : claimed s stripe (rebuilt lost new) ≡ true) where
+    stop : Bool
+    stop = stops (outcome s (named s lost))
+
+    agreeing : Bool
+    agreeing = not (unlike s (named s lost) stripe new)
+
+    whole : Bool
+    whole = not (any (equations s) (fails s new))
+
+    tested : (rightCells s stripe lost && (not stop && (eqb (length new) (stripeLength s) && (not (wide new) && (whole && agreeing))))) ≡ true
+    unfolding claimed stop agreeing whole
+    tested = h
+
+    is-rebuilt : RebuildsCells s lost stripe 0 new
+    unfolding stop agreeing whole unlike
+    is-rebuilt =
+        let first = and-right (rightCells s stripe lost) (not stop && (eqb (length new) (stripeLength s) && (not (wide new) && (whole && agreeing)))) tested in
+        let second = and-right (not stop) (eqb (length new) (stripeLength s) && (not (wide new) && (whole && agreeing))) first in
+        let third = and-right (eqb (length new) (stripeLength s)) (not (wide new) && (whole && agreeing)) second in
+        let fourth = and-right (not (wide new)) (whole && agreeing) third in
+        decided 0 new (and-left (rightCells s stripe lost) (not stop && (eqb (length new) (stripeLength s) && (not (wide new) && (whole && agreeing)))) tested)
+        (restored (passes-determined s w (named s lost) (not-true stop (and-left (not stop) _ first)))
+        (record {
+          is = record {
+            long = eqb-true (length new) (stripeLength s) (and-left (eqb (length new) (stripeLength s)) _ second);
+            bytes = not-wide new (not-true (wide new) (and-left (not (wide new)) _ third));
+            encoded = is-clean s new (and-left whole agreeing fourth);
+          };
+          agree = record {
+            same = λ c lc out t lt. eqb-true (byteAt s stripe c t) (byteAt s new c t) (not-false (eqb (byteAt s stripe c t) (byteAt s new c t))
+                (any-none (s .cell) (λ u. not (eqb (byteAt s stripe c u) (byteAt s new c u)))
+                (ap (λ (b : Bool). not b && any (s .cell) (λ u. not (eqb (byteAt s stripe c u) (byteAt s new c u)))) (sym out)
+                ∙ any-none (cells s) (λ d. not (named s lost d) && any (s .cell) (λ u. not (eqb (byteAt s stripe d u) (byteAt s new d u)))) (not-true (unlike s (named s lost) stripe new) (and-right whole agreeing fourth)) c lc) t lt));
+          };
+        }) refl)
+
 -- tests that differ nowhere are the same
 not-xor : (a b : Bool) → xor a b ≡ false → a ≡ b
 unfolding xor
@@ -215,13 +280,17 @@ is-planned s stripe k taken reads h = record {
 claimed-so : (s : Shape) (stripe : List ℕ) (c : Claim) → refusal (stripeFaults s (length stripe)) ≡ 0 → claimed s stripe c ≡ true → Claims s stripe c
 unfolding claimed c
 claimed-so s stripe encoded right h = is-clean s stripe h
-claimed-so s stripe (broken n) right h = eqb-true (brokenEquations s stripe) n h
-claimed-so s stripe (written row column bytes new n) right h = (is-written s stripe row column bytes new n h, is-depending s stripe row column bytes new n h)
-claimed-so s stripe (undetermined lost) right h = stops-undetermined s (accepted s (length stripe) right .0) (named s lost) h
-claimed-so s stripe (determined lost) right h = passes-determined s (accepted s (length stripe) right .0) (named s lost) (not-true (stops (outcome s (named s lost))) h)
+claimed-so s stripe (broken n) right h = (sym right, sym (eqb-true (brokenEquations s stripe) n h))
+claimed-so s stripe (written row column bytes new n) right h = (sym (not-refused s stripe row column bytes new n h), (is-written s stripe row column bytes new n h, is-depending s stripe row column bytes new n h))
+claimed-so s stripe (rebuildRefused lost number) right h = is-refused s stripe (accepted s (length stripe) right .0) lost number h
+claimed-so s stripe (rebuilt lost new) right h = is-rebuilt s stripe (accepted s (length stripe) right .0) lost new h
 claimed-so s stripe (found answer) right h = record { number = found-number s stripe answer h ∙ sym right; finding = λ z. is-found s (accepted s (length stripe) right .0) stripe answer h }
 claimed-so s stripe (planned k taken reads) right h = is-planned s stripe k taken reads h
-claimed-so s stripe (runRefused k plan number) right h = eqb-true (refusal (runFaults s (length stripe) (rows s * s .cell) k plan 0)) number h
+claimed-so s stripe (runRefused k plan number) right h = (
+  sym (eqb-true (refusal (runFaults s (length stripe) (length (emptySpare s)) k plan 0)) number (and-right (not (eqb number 0)) _ h)),
+  (λ e. clash (eq-eqb number 0 e) (not-true (eqb number 0) (and-left (not (eqb number 0)) _ h))),
+  refl,
+)
 
 passes : List Example → Bool
 passes [] = true
@@ -247,5 +316,5 @@ all-hold (e ∷ rows′) h =
 
 -- the theorem over the table
 pub examples-hold : AllHold table
-unfolding table passes claimed unwritten differing depending settled isParity writeFaults refusal firstOf order applies stripeFaults shapeFaults listed rows columns equations cells cellNumber stripeLength columnOf liesAt cellOf callersCell place equation parityCell sumsCell byteAt sumOver fails brokenEquations any count xors _⊕_ named run lowest holds xor finds replaces wide inColumns syndrome bit diagonal chosen readsCell cellsRead byRule isAccepted planFaults spareFaults runFaults
+unfolding table passes claimed rightCells unlike unwritten differing depending settled isParity writeFaults refusal firstOf order applies stripeFaults shapeFaults cellsFaults listed rows columns equations cells cellNumber stripeLength columnOf liesAt cellOf callersCell place equation parityCell sumsCell byteAt sumOver fails brokenEquations any count xors _⊕_ named run lowest holds xor finds replaces wide inColumns syndrome bit diagonal chosen readsCell cellsRead byRule isAccepted planFaults spareFaults runFaults
 examples-hold = all-hold table refl
