@@ -6,6 +6,7 @@ use Rattle.equation.proofs.Windows.{whole}
 use Rattle.lanes.proofs.Lanes.{passes-whole, mends-not, mends-done}
 use Prim.Native.Nat.{ℕ}
 use mathlib.Core.List.{List}
+use native.Mathlib.Omega.{arith}
 use lib.ListN.{length, length-replicate}
 use borrow.Author.Needs.{needs}
 use Rattle.lanes.proofs.mend.Statement.{statement}
@@ -21,7 +22,14 @@ slice-aggregate-fill : tie.Need-slice-aggregate-fill
 slice-aggregate-fill c = search needs
 
 fill-requires : tie.Need-fill-requires
-fill-requires c κs = search needs
+fill-requires c κs =
+    let start = c .before .before .before .before .before .before .before .before in (
+      start .pre .0,
+      start .pre .1,
+      record { long = start .pre .2 .long; few = omega (arith, start .pre .2 .few); below = λ j l. start .pre .2 .below j (omega (arith, l)) },
+      record { long = start .pre .3 .long; inside = λ k l. start .pre .3 .inside k (omega (arith, l)) },
+      c .before .before .before .before .survivors-agree .ensures .1,
+    )
 
 same-length : tie.Need-same-length
 same-length c = ⊎-elim (λ way. ap (λ (l : List ℕ). length l) (way .7) ∙ way .3 .ensures .long) (λ way. ap (λ (l : List ℕ). length l) (way .1)) (c .before .if1 .came)
