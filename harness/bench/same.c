@@ -1,7 +1,7 @@
 /* The same algorithm in C, function by function as the library has it: sums of runs in
  * blocks of 128 bytes, equations as lines of cells, elimination on sets of equations, and
- * totals in lanes of 512 bytes. Compiled alone, by the library's compiler and for its
- * instruction set. */
+ * totals in lanes of 512 bytes. Plan, show and job do the same by what is shortest. Compiled
+ * alone, by the library's compiler and for its instruction set. */
 #include "same.h"
 
 #define BLOCK 128
@@ -11,6 +11,8 @@
 #define SETS 64
 #define LANES (SETS * LANE)
 #define CELLS 961
+#define JOB_LOST 2048
+#define JOB_BYTES 32768
 
 /* ---- runs of bytes ---- */
 
@@ -187,7 +189,8 @@ static void add_block_sum(uint8_t *d, size_t to, const uint8_t *s, const uint64_
     put_bytes(d, to, sum, n);
 }
 
-static void add_sum(uint8_t *d, size_t to, const uint8_t *s, const uint64_t *places, uint64_t count, size_t at, size_t n)
+static void add_sum(uint8_t *d, size_t to, const uint8_t *s, const uint64_t *places, uint64_t count, size_t at,
+                    size_t n)
 {
     if (count == 0)
         return;
@@ -454,7 +457,7 @@ static void set_parity(struct zijraduf_shape shape, uint8_t *stripe, uint64_t q)
     put_sum(stripe, places, from.count, from.to, shape.cell);
 }
 
-uint64_t same_encode(struct zijraduf_shape shape, uint8_t *stripe, size_t length)
+uint64_t SAME(encode)(struct zijraduf_shape shape, uint8_t *stripe, size_t length)
 {
     uint64_t refusal = stripe_refusal(shape, length);
     if (refusal != 0)
@@ -472,7 +475,7 @@ static int equation_fails(struct zijraduf_shape shape, const uint8_t *stripe, ui
     return !is_sum(stripe, places, from.count, from.to, shape.cell);
 }
 
-struct zijraduf_count same_broken(struct zijraduf_shape shape, const uint8_t *stripe, size_t length)
+struct zijraduf_count SAME(broken)(struct zijraduf_shape shape, const uint8_t *stripe, size_t length)
 {
     uint64_t refusal = stripe_refusal(shape, length);
     if (refusal != 0)
@@ -493,8 +496,8 @@ static void add_part(struct zijraduf_shape shape, uint8_t *stripe, uint64_t q, s
     add_difference(stripe, parity_place(shape, q), from, bytes, n);
 }
 
-struct zijraduf_count same_write(struct zijraduf_shape shape, uint8_t *stripe, size_t length, uint64_t row,
-                                 uint64_t column, const uint8_t *bytes, size_t bytes_length)
+struct zijraduf_count SAME(write)(struct zijraduf_shape shape, uint8_t *stripe, size_t length, uint64_t row,
+                                  uint64_t column, const uint8_t *bytes, size_t bytes_length)
 {
     uint64_t refusal = write_refusal(shape, length, row, column, bytes_length);
     if (refusal != 0)
@@ -734,8 +737,8 @@ static void fill_lane(struct zijraduf_shape shape, uint8_t *stripe, const uint64
     fill_cells(shape, stripe, lanes, listed, sets, lost, at, n);
 }
 
-static void fill(struct zijraduf_shape shape, uint8_t *stripe, const uint64_t listed[SETS], const uint64_t sets[SETS],
-                 uint64_t lost, uint8_t lanes[LANES])
+static void fill_lost(struct zijraduf_shape shape, uint8_t *stripe, const uint64_t listed[SETS],
+                      const uint64_t sets[SETS], uint64_t lost, uint8_t lanes[LANES])
 {
     uint64_t set = union_of(sets, lost);
     size_t at = 0;
@@ -752,7 +755,7 @@ static uint64_t mend(struct zijraduf_shape shape, uint8_t *stripe, const uint64_
     uint8_t lanes[LANES] = {0};
     if (!survivors_agree(shape, stripe, checks, v, lanes))
         return 12;
-    fill(shape, stripe, listed, sets, lost, lanes);
+    fill_lost(shape, stripe, listed, sets, lost, lanes);
     return 0;
 }
 
@@ -795,8 +798,8 @@ static void mark_columns(struct zijraduf_shape shape, uint64_t a, uint64_t b, ui
     }
 }
 
-uint64_t same_rebuild_cells(struct zijraduf_shape shape, uint8_t *stripe, size_t length, const uint64_t *lost,
-                            size_t count)
+uint64_t SAME(rebuild_cells)(struct zijraduf_shape shape, uint8_t *stripe, size_t length, const uint64_t *lost,
+                             size_t count)
 {
     uint64_t refusal = cells_refusal(shape, length, lost, count);
     if (refusal != 0)
@@ -806,7 +809,7 @@ uint64_t same_rebuild_cells(struct zijraduf_shape shape, uint8_t *stripe, size_t
     return rebuild_lost(shape, stripe, map);
 }
 
-uint64_t same_rebuild_columns(struct zijraduf_shape shape, uint8_t *stripe, size_t length, uint64_t a, uint64_t b)
+uint64_t SAME(rebuild_columns)(struct zijraduf_shape shape, uint8_t *stripe, size_t length, uint64_t a, uint64_t b)
 {
     uint64_t refusal = columns_refusal(shape, length, a, b);
     if (refusal != 0)
@@ -895,7 +898,7 @@ static struct zijraduf_finding name_column(struct zijraduf_shape shape, const ui
     return (struct zijraduf_finding){0, ZIJRADUF_COLUMN, c};
 }
 
-struct zijraduf_finding same_bad_column(struct zijraduf_shape shape, const uint8_t *stripe, size_t length)
+struct zijraduf_finding SAME(bad_column)(struct zijraduf_shape shape, const uint8_t *stripe, size_t length)
 {
     uint64_t refusal = stripe_refusal(shape, length);
     if (refusal != 0)
@@ -906,7 +909,7 @@ struct zijraduf_finding same_bad_column(struct zijraduf_shape shape, const uint8
     return name_column(shape, stripe, q);
 }
 
-/* ---- run by plan: RDP with one lost column ---- */
+/* ---- plan, run, show: RDP with one lost column ---- */
 
 static uint64_t rdp_refusal(struct zijraduf_shape shape)
 {
@@ -914,6 +917,31 @@ static uint64_t rdp_refusal(struct zijraduf_shape shape)
     if (refusal == 1 || refusal == 2)
         return refusal;
     return shape.code != 1 ? 3 : refusal;
+}
+
+static uint64_t plan_refusal(struct zijraduf_shape shape, uint64_t k)
+{
+    uint64_t refusal = rdp_refusal(shape);
+    if (refusal != 0)
+        return refusal;
+    return shape.p < k ? 6 : 0;
+}
+
+/* The lowest half of the rows other than row n - k, one row more where that one is among them. */
+static uint64_t lowest_rows(uint64_t n, uint64_t k)
+{
+    uint64_t half = n / 2;
+    return n - k < half ? (one_bit(half + 1) - 1) ^ one_bit(n - k) : one_bit(half) - 1;
+}
+
+struct zijraduf_read_plan SAME(plan)(struct zijraduf_shape shape, uint64_t k)
+{
+    uint64_t refusal = plan_refusal(shape, k), n = shape.p - 1;
+    if (refusal != 0)
+        return (struct zijraduf_read_plan){refusal, 0, 0};
+    if (k == shape.p)
+        return (struct zijraduf_read_plan){0, one_bit(n) - 1, n * n};
+    return (struct zijraduf_read_plan){0, lowest_rows(n, k), 3 * n * n / 4};
 }
 
 /* Row p - 1 - k of column k lies on the missing diagonal, and the diagonal parity column
@@ -974,8 +1002,8 @@ static void diagonal_places(struct zijraduf_shape shape, uint64_t k, uint64_t pl
         put_column(places, p, k, n * turn, n * turn);
 }
 
-static void rebuild_row(struct zijraduf_shape shape, const uint8_t *stripe, const uint64_t *level, const uint64_t *slant,
-                        uint64_t k, uint64_t plan, uint64_t i, uint8_t *part)
+static void rebuild_row(struct zijraduf_shape shape, const uint8_t *stripe, const uint64_t *level,
+                        const uint64_t *slant, uint64_t k, uint64_t plan, uint64_t i, uint8_t *part)
 {
     uint64_t n = shape.p - 1;
     if ((plan & one_bit(i)) == 0) {
@@ -986,8 +1014,8 @@ static void rebuild_row(struct zijraduf_shape shape, const uint8_t *stripe, cons
     put_sum_from(part, 0, stripe, slant + (n - d), n, d * shape.cell, shape.cell);
 }
 
-struct zijraduf_count same_run(struct zijraduf_shape shape, const uint8_t *stripe, size_t length, uint64_t k,
-                               uint64_t plan, uint8_t *spare, size_t spare_length, uint64_t first, uint64_t budget)
+struct zijraduf_count SAME(run)(struct zijraduf_shape shape, const uint8_t *stripe, size_t length, uint64_t k,
+                                uint64_t plan, uint8_t *spare, size_t spare_length, uint64_t first, uint64_t budget)
 {
     uint64_t refusal = run_refusal(shape, length, spare_length, k, plan, first);
     if (refusal != 0)
@@ -1000,6 +1028,110 @@ struct zijraduf_count same_run(struct zijraduf_shape shape, const uint8_t *strip
         rebuild_row(shape, stripe, level, slant, k, plan, i, spare + i * shape.cell);
     return (struct zijraduf_count){0, n};
 }
+
+static uint64_t show_refusal(struct zijraduf_shape shape, size_t bytes, size_t spare, uint64_t k, uint64_t done,
+                             uint64_t row, uint64_t column)
+{
+    uint64_t refusal = rdp_refusal(shape), n = row_count(shape), columns = column_count(shape);
+    if (refusal != 0)
+        return refusal;
+    if (bytes != columns * n * shape.cell || spare != n * shape.cell)
+        return 5;
+    if (columns <= k || n < done || n <= row || columns <= column)
+        return 6;
+    return column == k && done <= row ? 10 : 0;
+}
+
+struct zijraduf_part SAME(show)(struct zijraduf_shape shape, const uint8_t *stripe, size_t length,
+                                const uint8_t *spare, size_t spare_length, uint64_t k, uint64_t done, uint64_t row,
+                                uint64_t column)
+{
+    (void)stripe, (void)spare;
+    uint64_t refusal = show_refusal(shape, length, spare_length, k, done, row, column);
+    if (refusal != 0)
+        return (struct zijraduf_part){refusal, 0, 0, 0};
+    if (column == k)
+        return (struct zijraduf_part){0, ZIJRADUF_IN_SPARE, row * shape.cell, shape.cell};
+    return (struct zijraduf_part){0, ZIJRADUF_IN_STRIPE, cell_place(shape, row, column), shape.cell};
+}
+
+/* ---- jobs ---- */
+
+/* Bytes that are still to be read, or the content of a field. */
+struct bytes {
+    const uint8_t *at;
+    size_t count;
+};
+
+struct job {
+    struct bytes code, p, cell, lost, stripe;
+};
+
+/* Of two bytes, high byte first. */
+static uint64_t number_at(const uint8_t *at) { return at[0] * 256u + at[1]; }
+
+/* Takes the next field if it has this tag, a length within the bounds, and is all there. */
+static int take_field(struct bytes *rest, uint8_t tag, size_t least, size_t most, struct bytes *field)
+{
+    if (rest->count < 3 || rest->at[0] != tag)
+        return 0;
+    size_t n = number_at(rest->at + 1);
+    if (n < least || most < n || rest->count - 3 < n)
+        return 0;
+    *field = (struct bytes){rest->at + 3, n};
+    *rest = (struct bytes){rest->at + 3 + n, rest->count - 3 - n};
+    return 1;
+}
+
+/* The cell size may be absent: then it is 512. */
+static int take_cell(struct bytes *rest, struct bytes *cell)
+{
+    static const uint8_t usual[2] = {512 >> 8, 512 & 255};
+    *cell = (struct bytes){usual, 2};
+    return rest->count == 0 || rest->at[0] != 3 || take_field(rest, 3, 2, 2, cell);
+}
+
+static int read_job(struct bytes rest, struct job *job)
+{
+    return take_field(&rest, 1, 1, 1, &job->code) && take_field(&rest, 2, 1, 1, &job->p) &&
+           take_cell(&rest, &job->cell) && take_field(&rest, 4, 0, 2 * JOB_LOST, &job->lost) &&
+           job->lost.count % 2 == 0 && take_field(&rest, 5, 0, JOB_BYTES, &job->stripe) && rest.count == 0;
+}
+
+/* Copies the job's stripe and rebuilds it there. */
+static uint64_t rebuild_job(const struct job *job, uint8_t stripe[JOB_BYTES])
+{
+    uint64_t lost[JOB_LOST];
+    size_t count = job->lost.count / 2;
+    for (size_t k = 0; k < count; k++)
+        lost[k] = number_at(job->lost.at + 2 * k);
+    put_run(stripe, 0, job->stripe.at, job->stripe.count);
+    struct zijraduf_shape shape = {job->code.at[0], job->p.at[0], number_at(job->cell.at)};
+    return SAME(rebuild_cells)(shape, stripe, job->stripe.count, lost, count);
+}
+
+/* The fields of an answer, where there is room for all of them. Gives how long they are. */
+static size_t put_answer(uint64_t refusal, const uint8_t *stripe, size_t n, uint8_t *output, size_t room)
+{
+    const uint8_t head[7] = {6, 0, 1, refusal, 5, n >> 8, n};
+    size_t start = refusal == 0 ? 7 : 4, rest = refusal == 0 ? n : 0;
+    if (room < start + rest)
+        return start + rest;
+    put_run(output, 0, head, start);
+    put_run(output, start, stripe, rest);
+    return start + rest;
+}
+
+size_t SAME(job)(const uint8_t *input, size_t length, uint8_t *output, size_t room)
+{
+    struct job job;
+    uint8_t stripe[JOB_BYTES];
+    if (!read_job((struct bytes){input, length}, &job))
+        return put_answer(13, stripe, 0, output, room);
+    return put_answer(rebuild_job(&job, stripe), stripe, job.stripe.count, output, room);
+}
+
+/* ---- sums alone ---- */
 
 /* The row parity column into the spare, a cell after the other, with the places of row 0 for every row. */
 void same_cells(struct zijraduf_shape shape, const uint8_t *stripe, const uint64_t *places, uint8_t *spare)
