@@ -16,6 +16,13 @@ static int (*decode_cached)(int k, int m, int w, int ***cache, int *erasures, ch
 static int (*decode_lazy)(int k, int m, int w, int *matrix, int *erasures, char **data, char **coding, int size,
                           int packet, int smart);
 
+static int **made(int **new_schedule)
+{
+    if (new_schedule == 0)
+        wrong("jerasure", "no schedule");
+    return new_schedule;
+}
+
 /* A diagonal's row parity cell stands for that row's data. */
 static void make_bits(void)
 {
@@ -40,8 +47,8 @@ static int have_jerasure(void)
     if (hand.shape.code != 1 || !open_functions("libJerasure.so.2", list))
         return 0;
     make_bits();
-    schedule = make_schedule(hand.rows, 2, hand.rows, bits);
-    return schedule != 0;
+    schedule = made(make_schedule(hand.rows, 2, hand.rows, bits));
+    return 1;
 }
 
 /* The entry of Jerasure's cache that is used, made as Jerasure makes all of them: parity in the place of the devices
@@ -58,11 +65,12 @@ static int make_cached(uint64_t lost)
     memcpy(left, bits, lost * w * line * sizeof(int));
     for (uint64_t n = lost * w; n < line; n++)
         left[n * line + n] = 1;
-    if (invert_bits(left, inverse, line) == 0)
-        *entry = make_schedule(w, lost, w, inverse);
+    if (invert_bits(left, inverse, line) != 0)
+        wrong("jerasure", "its matrix has no inverse");
+    *entry = made(make_schedule(w, lost, w, inverse));
     free(left);
     free(inverse);
-    return *entry != 0;
+    return 1;
 }
 
 static int have_two(void) { return have_jerasure() && make_cached(2); }
