@@ -2,16 +2,16 @@
 # Measures the library's calls beside the same algorithm in C, ISA-L, Jerasure, snapraid
 # and memcpy, prints tables of each measure and holds the figures to the bars. It is a
 # report and no gate: it fails only where something can't be built, or where the
-# bytes are wrong, since nothing wrong is measured: the library and the C are compared with
-# the independent second program, and all who are measured are checked on what is measured.
+# bytes are wrong, since nothing wrong is measured: the C is compared with the independent
+# second program, the library with the C on all that is measured, and peers are checked.
 #
 #   harness/bench.sh [--quick] [--counts] [--only CALLS] [--lib FILE] [--keep FOLDER]
 #
 #   --quick       p = 5, 17 and 31; cells of 512 and 4,096 bytes
 #   --counts      instructions only, no times
-#   --only CALLS  some calls: encode, broken, write, run, run-rows, two-columns, one-column,
-#                 four-cells, clean, bad-column, deciding; rebuild is all from two-columns
-#                 on, with encode and broken for their bars
+#   --only CALLS  some calls, named as in the tables, and deciding; rebuild is two-columns,
+#                 one-column, four-cells, clean, bad-column and deciding, with encode and
+#                 broken for their bars
 #   --lib FILE    measures FILE in place of what `rt staticlib zijraduf` makes
 #   --keep FOLDER leaves the driver and the figures there
 #
@@ -167,11 +167,9 @@ build() {
     kit_link "$BUILD/driver" "$BUILD"/driver-parts/*.o "$lib"
 }
 
-# compare WHAT OPTIONS...: with the second program.
-compare() {
-    say "comparing $1 with the second program"
-    shift
-    harness/compare.sh --short "$@" >"$BUILD/compared" 2>&1 || { cat "$BUILD/compared" >&2 && exit 1; }
+compare_same() {
+    say 'comparing the same algorithm in C with the second program'
+    harness/compare.sh --same --short >"$BUILD/compared" 2>&1 || { cat "$BUILD/compared" >&2 && exit 1; }
 }
 
 # The driver, with the peers where it looks for them.
@@ -319,8 +317,7 @@ header() {
 }
 
 build
-compare 'the same algorithm in C' --same
-compare 'the library' --lib "$lib"
+compare_same
 why=$(fetch_peers) || say "no peers: $why"
 why_snapraid=$(fetch_snapraid) || say "no snapraid: $why_snapraid"
 pick_counter
