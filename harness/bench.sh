@@ -143,10 +143,10 @@ END
 
 # cc_part NAME OBJECT [FLAGS...]
 cc_part() {
-    part=$1
-    object=$BUILD/driver-parts/$2.o
+    source=harness/bench/$1.c
+    object=$BUILD/parts/$2.o
     shift 2
-    kit_cc "harness/bench/$part.c" "$object" -Iinclude -Wall -Wextra "$@"
+    kit_cc "$source" "$object" -Iinclude -Wall -Wextra "$@"
 }
 
 build() {
@@ -154,7 +154,7 @@ build() {
         rt staticlib zijraduf >&2
         lib=$ROOT/target/staticlib/libzijraduf.a
     fi
-    mkdir -p "$BUILD/driver-parts"
+    mkdir -p "$BUILD/parts"
     for part in harness/bench/*.c; do
         part=$(basename "$part" .c)
         case $part in
@@ -164,7 +164,7 @@ build() {
         *) cc_part "$part" "$part" ;;
         esac
     done
-    kit_link "$BUILD/driver" "$BUILD"/driver-parts/*.o "$lib"
+    kit_link "$BUILD/driver" "$BUILD"/parts/*.o "$lib"
 }
 
 compare_same() {

@@ -1,5 +1,5 @@
-/* What is measured is right: every row is checked on the memory that is measured. That ours and the C follow the rules
- * is seen by comparing both with the second program: here they have to agree, and not to refuse. */
+/* What is measured is right: every row is checked on the memory that is measured. That the C follows the rules is seen
+ * by comparing it with the second program: here ours has to agree with the C, and both not to refuse. */
 #include "check.h"
 
 #include "hand.h"

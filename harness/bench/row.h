@@ -20,7 +20,8 @@ struct row {
     void (*run)(uint8_t *m);
     size_t (*data)(void);   /* the data bytes of one call */
     const uint64_t *answer; /* the number to be answered, 0 by a call that gives none; where not told, that of ours */
-    /* Whether the call did its work, from the memory before and after; where not told, it has to do what ours does. */
+    /* Whether the call did its work, from the memory before and after; where not told, the state is that of ours, and
+     * the call has to do what ours does. */
     int (*check)(const struct row *row, uint8_t *before, uint8_t *after);
     int slow; /* takes more instructions for the larger primes than the emulator can write lines for */
 };
