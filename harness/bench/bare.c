@@ -13,8 +13,8 @@ static size_t two_copies(void) { return 2 * hand.data_bytes; }
 static void put_data(uint8_t *m) { fill(m, 2 * hand.data_bytes); }
 static struct state data = {two_copies, put_data, 0};
 
-static void sum_cells(uint8_t *m) { same_cells(hand.shape, m, hand.row_places, m + hand.length); }
-static void sum_rows(uint8_t *m) { same_sums(hand.shape, m, hand.row_places, m + hand.length); }
+static void sum_cells(uint8_t *m) { same_cells(hand.shape, m, hand.top_places, m + hand.length); }
+static void sum_rows(uint8_t *m) { same_sums(hand.shape, m, hand.top_places, m + hand.length); }
 static void copy_data(uint8_t *m) { memcpy(m + hand.data_bytes, m, hand.data_bytes); }
 
 /* The sums are the row parity column, which comes right after the data, and no byte of the stripe changes. */

@@ -31,7 +31,7 @@ void set_shape(uint64_t code, uint64_t p, uint64_t cell)
     for (uint64_t k = 0; k < 4; k++)
         hand.lost_cells[k] = k * hand.columns / 4 * hand.rows + quarter[k] * hand.rows / 4;
     for (uint64_t k = 0; k < hand.rows; k++)
-        hand.row_places[k] = k * hand.column_bytes;
+        hand.top_places[k] = k * hand.column_bytes;
 }
 
 void wrong(const char *who, const char *what)
