@@ -2,27 +2,33 @@
 # Measures the library's calls beside the same algorithm in C, ISA-L, Jerasure, snapraid
 # and memcpy, prints tables of each measure and holds the figures to the bars. It is a
 # report and no gate: it fails only where something can't be built, or where the
-# bytes are wrong, since nothing wrong is measured.
+# bytes are wrong, since nothing wrong is measured: the C is compared with the independent
+# second program, the library with the C on all that is measured, and peers are checked.
 #
-#   harness/bench.sh [--quick] [--counts] [--only CALLS] [--lib FILE]
+#   harness/bench.sh [--quick] [--counts] [--only CALLS] [--lib FILE] [--keep FOLDER]
 #
 #   --quick       p = 5, 17 and 31; cells of 512 and 4,096 bytes
 #   --counts      instructions only, no times
-#   --only CALLS  some calls: encode, broken, write, run, run-rows, two-columns, one-column,
-#                 four-cells, clean, bad-column, deciding; rebuild is all from two-columns
-#                 on, with encode and broken for their bars
+#   --only CALLS  some calls, named as in the tables, and deciding; rebuild is two-columns,
+#                 one-column, four-cells, clean, bad-column and deciding, with encode and
+#                 broken for their bars
 #   --lib FILE    measures FILE in place of what `rt staticlib zijraduf` makes
+#   --keep FOLDER leaves the driver and the figures there
 #
 # x86-64: instructions by perf or valgrind, and GB/s. Arm: instructions, by the kit's
 # emulator; its times would say nothing.
 set -eu
+ROOT=$(cd "$(dirname "$0")/.." && pwd)
 
+# The calls are the rows of the table in calls.c. Of some only the stack is measured.
 primes='5 7 17 31'
 cells='512 1000 4096'
 rebuild='two-columns one-column four-cells clean bad-column deciding'
-only="encode broken write run run-rows $rebuild"
-known="$only rebuild"
+stack_only='plan show job'
+only=$(sed -n 's/^    {"\([a-z-]*\)", .*/\1/p' "$ROOT/harness/bench/calls.c" | grep -vxF "$(printf '%s\n' $stack_only)")
+known="$(echo $only) rebuild"
 lib=
+keep=
 times=yes
 
 # Ends where a word is no call's name.
@@ -44,24 +50,29 @@ while [ $# -gt 0 ]; do
         only=$(echo "$2" | sed "s/rebuild/encode broken $rebuild/") && shift
         ;;
     --lib) lib=$(realpath "${2:?--lib wants a file}") && shift ;;
+    --keep) mkdir -p "${2:?--keep wants a folder}" && keep=$(realpath "$2") && shift ;;
     *) sed -n '2,/^set/s/^# \{0,1\}//p' "$0" >&2 && exit 2 ;;
     esac
     shift
 done
 
-ROOT=$(cd "$(dirname "$0")/.." && pwd)
 cd "$ROOT"
 . harness/kit.sh
-BUILD=$ROOT/target/bench
-peers=$BUILD/peers
-snapraid=$BUILD/snapraid
+kit_room
+peers=$ROOT/target/bench/peers
+snapraid=$ROOT/target/bench/snapraid
 figures=$BUILD/figures
-mkdir -p "$BUILD"
+mkdir -p "$ROOT/target/bench"
 [ -z "$EMULATOR" ] || times=
 
 say() { echo "bench: $*" >&2; }
 
-# ---- the peers, below target/ ----
+# ---- the peers, below target/: made once, in this run's own folder ----
+
+# put_in_place MADE FOLDER: where another run was first, what it made stays.
+put_in_place() {
+    mv "$1" "$2.$$" && { mv -T "$2.$$" "$2" 2>/dev/null || rm -rf "$2.$$"; }
+}
 
 # apt_in FOLDER: makes apt work with lists of its own there. It installs nothing and wants
 # no rights.
@@ -96,23 +107,24 @@ apt_get() {
 # Unpacked for amd64, whatever this machine is.
 fetch_peers() {
     [ ! -e "$peers/done" ] || return 0
-    rm -rf "$peers"
-    mkdir -p "$peers"
+    new=$BUILD/peers
+    mkdir -p "$new"
     apt_in "$BUILD/apt" || return 1
-    (cd "$peers" && apt_get "$BUILD/apt" download libisal2 libjerasure2 libgf-complete1) || return 1
-    for deb in "$peers"/*.deb; do
-        dpkg-deb -x "$deb" "$peers" || return 1
-        dpkg-deb -f "$deb" Package Version | sed 's/^[^:]*: //' | paste -s -d ' ' >>"$peers/versions"
+    (cd "$new" && apt_get "$BUILD/apt" download libisal2 libjerasure2 libgf-complete1) || return 1
+    for deb in "$new"/*.deb; do
+        dpkg-deb -x "$deb" "$new" || return 1
+        dpkg-deb -f "$deb" Package Version | sed 's/^[^:]*: //' | paste -s -d ' ' >>"$new/versions"
     done
-    touch "$peers/done"
+    touch "$new/done"
+    put_in_place "$new" "$peers"
 }
 
 # No package has snapraid's library of parities: it is built from Debian's source.
 fetch_snapraid() {
     [ ! -e "$snapraid/done" ] || return 0
     [ -z "$EMULATOR" ] && command -v cc >/dev/null || { echo 'no C compiler with headers for x86-64 here'; return 1; }
-    rm -rf "$snapraid"
-    mkdir -p "$snapraid"
+    new=$BUILD/snapraid
+    mkdir -p "$new"
     apt_in "$BUILD/apt-source" || return 1
     echo "deb-src http://deb.debian.org/debian $(sed -n 's/^VERSION_CODENAME=//p' /etc/os-release) main" \
         >"$BUILD/apt-source/sources.list"
@@ -120,12 +132,21 @@ fetch_snapraid() {
 Dir::Etc::sourcelist "$BUILD/apt-source/sources.list";
 Dir::Etc::sourceparts "$BUILD/apt-source/parts";
 END
-    (cd "$snapraid" && apt_get "$BUILD/apt-source" source --download-only snapraid) || return 1
-    tar -xf "$snapraid"/*.orig.tar.* -C "$snapraid" --strip-components=1 || return 1
-    (cd "$snapraid/raid" && cc -O2 -w -fPIC -shared -Wl,-z,defs -o ../libsnapraid.so \
-        check.c raid.c tables.c module.c int.c intz.c x86.c x86z.c helper.c memory.c) 2>"$snapraid/log" ||
+    (cd "$new" && apt_get "$BUILD/apt-source" source --download-only snapraid) || return 1
+    tar -xf "$new"/*.orig.tar.* -C "$new" --strip-components=1 || return 1
+    (cd "$new/raid" && cc -O2 -w -fPIC -shared -Wl,-z,defs -o ../libsnapraid.so \
+        check.c raid.c tables.c module.c int.c intz.c x86.c x86z.c helper.c memory.c) 2>"$new/log" ||
         { echo 'its raid library does not compile'; return 1; }
-    sed -n 's/^Version: /snapraid /p' "$snapraid"/*.dsc | head -n 1 >"$snapraid/done"
+    sed -n 's/^Version: /snapraid /p' "$new"/*.dsc | head -n 1 >"$new/done"
+    put_in_place "$new" "$snapraid"
+}
+
+# cc_part NAME OBJECT [FLAGS...]
+cc_part() {
+    source=harness/bench/$1.c
+    object=$BUILD/parts/$2.o
+    shift 2
+    kit_cc "$source" "$object" -Iinclude -Wall -Wextra "$@"
 }
 
 build() {
@@ -133,12 +154,22 @@ build() {
         rt staticlib zijraduf >&2
         lib=$ROOT/target/staticlib/libzijraduf.a
     fi
-    # -fhosted: the library's loops too may become memset and memcpy.
-    kit_cc harness/bench/same.c "$BUILD/same.o" -fhosted -Iinclude
-    for part in calls check driver; do
-        kit_cc harness/bench/$part.c "$BUILD/$part.o" -Iinclude -Wall -Wextra
+    mkdir -p "$BUILD/parts"
+    for part in harness/bench/*.c; do
+        part=$(basename "$part" .c)
+        case $part in
+        # -fhosted: the library's loops too may become memset and memcpy.
+        same) cc_part same same -fhosted ;;
+        calls) cc_part calls c && cc_part calls ours -DAS_EXPORTS ;;
+        *) cc_part "$part" "$part" ;;
+        esac
     done
-    kit_link "$BUILD/driver" "$BUILD/driver.o" "$BUILD/calls.o" "$BUILD/check.o" "$BUILD/same.o" "$lib"
+    kit_link "$BUILD/driver" "$BUILD"/parts/*.o "$lib"
+}
+
+compare_same() {
+    say 'comparing the same algorithm in C with the second program'
+    harness/compare.sh --same --short >"$BUILD/compared" 2>&1 || { cat "$BUILD/compared" >&2 && exit 1; }
 }
 
 # The driver, with the peers where it looks for them.
@@ -192,7 +223,7 @@ pick_counter() {
         how='perf stat -e instructions:u, 257 calls less 1 call, a 256th'
     elif [ -n "$(by_callgrind 1 5 512 encode 2>/dev/null)" ]; then
         counter=by_callgrind
-        how='valgrind --tool=callgrind, one call less a call of nothing; AVX2 at most, memcpy and memset without rep; where the stack lies makes up to 0.5 % of difference'
+        how='valgrind --tool=callgrind, one call less a call of nothing; AVX2 at most, memcpy and memset without rep'
     else
         counter=
         how='not counted: neither perf nor valgrind works here'
@@ -286,14 +317,16 @@ header() {
 }
 
 build
+compare_same
 why=$(fetch_peers) || say "no peers: $why"
 why_snapraid=$(fetch_snapraid) || say "no snapraid: $why_snapraid"
 pick_counter
 others=$(other_bytes)
 of_all=$(echo "$only" | sed 's/deciding//')
 of_all=$(echo $of_all)
-driver check 1 7 512 plan show job >/dev/null
+driver check 1 7 512 $stack_only >/dev/null
 driver stack | awk '{ print "stack 0 0 0", $1, "ours", $2 }' >"$figures"
 measure_all
 header
 awk -f harness/bench/report.awk "$figures"
+[ -z "$keep" ] || cp "$BUILD/driver" "$figures" "$keep"

@@ -1,22 +1,29 @@
-/* The same algorithm in C: what the library's calls are held to. */
+/* The same algorithm in C: what the library's calls are held to. With AS_EXPORTS its calls have the names of the
+ * library's exports and can be linked in the library's place. */
 #ifndef SAME_H
 #define SAME_H
 
 #include "zijraduf.h"
 
-uint64_t same_encode(struct zijraduf_shape shape, uint8_t *stripe, size_t length);
-struct zijraduf_count same_broken(struct zijraduf_shape shape, const uint8_t *stripe, size_t length);
-struct zijraduf_count same_write(struct zijraduf_shape shape, uint8_t *stripe, size_t length, uint64_t row,
-                                 uint64_t column, const uint8_t *bytes, size_t bytes_length);
-uint64_t same_rebuild_cells(struct zijraduf_shape shape, uint8_t *stripe, size_t length, const uint64_t *lost,
-                            size_t count);
-uint64_t same_rebuild_columns(struct zijraduf_shape shape, uint8_t *stripe, size_t length, uint64_t a, uint64_t b);
-struct zijraduf_finding same_bad_column(struct zijraduf_shape shape, const uint8_t *stripe, size_t length);
-struct zijraduf_count same_run(struct zijraduf_shape shape, const uint8_t *stripe, size_t length, uint64_t k,
-                               uint64_t plan, uint8_t *spare, size_t spare_length, uint64_t first, uint64_t budget);
+#ifdef AS_EXPORTS
+#define SAME(call) zijraduf_##call
+#else
+#define SAME(call) same_##call
+#endif
 
-/* The sums alone that a whole run of an RDP stripe has to make: as many, of as many cells each. Where the cells of row 0
- * start is ready made. */
+typeof(zijraduf_encode) SAME(encode);
+typeof(zijraduf_broken) SAME(broken);
+typeof(zijraduf_write) SAME(write);
+typeof(zijraduf_rebuild_cells) SAME(rebuild_cells);
+typeof(zijraduf_rebuild_columns) SAME(rebuild_columns);
+typeof(zijraduf_bad_column) SAME(bad_column);
+typeof(zijraduf_plan) SAME(plan);
+typeof(zijraduf_run) SAME(run);
+typeof(zijraduf_show) SAME(show);
+typeof(zijraduf_job) SAME(job);
+
+/* The sums alone that a whole run of an RDP stripe has to make: as many, of as many cells each. Where the cells of
+ * row 0 start is ready made. */
 void same_cells(struct zijraduf_shape shape, const uint8_t *stripe, const uint64_t *places, uint8_t *spare);
 void same_sums(struct zijraduf_shape shape, const uint8_t *stripe, const uint64_t *places, uint8_t *spare);
 

@@ -1,0 +1,123 @@
+/* Totals of equations in lanes: survivors that agree, and lost cells filled. */
+#ifndef SAME_LANES_H
+#define SAME_LANES_H
+
+#include "decide.h"
+#include "equation.h"
+#include "xor.h"
+
+#define LANE 512
+#define LANES (SETS * LANE)
+
+static uint64_t union_of(const uint64_t sets[SETS], uint64_t n)
+{
+    uint64_t all = 0;
+    for (uint64_t j = 0; j < n; j++)
+        all |= sets[j];
+    return all;
+}
+
+/* Inlined here and called by a run: each takes the fewest instructions so. */
+static void put_total(struct zijraduf_shape shape, const uint8_t *stripe, uint64_t q, size_t at, size_t n,
+                      uint8_t lanes[LANES])
+{
+    uint64_t places[PLACES] = {0};
+    uint64_t count = cells_of(shape, q, places);
+    [[clang::always_inline]] put_sum_from(lanes, q * LANE, stripe, places, count, at, n);
+}
+
+/* The totals of a set of equations, of the n bytes from `at` on. */
+static void put_totals(struct zijraduf_shape shape, const uint8_t *stripe, uint64_t set, size_t at, size_t n,
+                       uint8_t lanes[LANES])
+{
+    uint64_t members[SETS] = {0};
+    uint64_t count = list_members(set, 1, members);
+    for (uint64_t k = 0; k < count; k++)
+        put_total(shape, stripe, members[k], at, n, lanes);
+}
+
+static int set_agrees(const uint8_t lanes[LANES], uint64_t set, size_t n)
+{
+    uint64_t places[SETS] = {0};
+    uint64_t count = list_members(set, LANE, places);
+    return sums_to_zero(lanes, places, count, n);
+}
+
+static int lanes_agree(const uint8_t lanes[LANES], const uint64_t checks[SETS], uint64_t v, size_t n)
+{
+    for (uint64_t j = 0; j < v; j++)
+        if (!set_agrees(lanes, checks[j], n))
+            return 0;
+    return 1;
+}
+
+static void add_lanes(uint8_t *stripe, size_t to, const uint8_t lanes[LANES], uint64_t set, size_t n)
+{
+    uint64_t places[SETS] = {0};
+    uint64_t count = list_members(set, LANE, places);
+    add_sum(stripe, to, lanes, places, count, 0, n);
+}
+
+static size_t lane_bytes(size_t at, size_t cell)
+{
+    return cell - at < LANE ? cell - at : LANE;
+}
+
+static int lane_agrees(struct zijraduf_shape shape, const uint8_t *stripe, const uint64_t checks[SETS], uint64_t v,
+                       uint64_t set, size_t at, size_t n, uint8_t lanes[LANES])
+{
+    put_totals(shape, stripe, set, at, n, lanes);
+    return lanes_agree(lanes, checks, v, n);
+}
+
+static int survivors_agree(struct zijraduf_shape shape, const uint8_t *stripe, const uint64_t checks[SETS], uint64_t v,
+                           uint8_t lanes[LANES])
+{
+    uint64_t set = union_of(checks, v);
+    size_t at = 0;
+    while (at < shape.cell) {
+        size_t n = lane_bytes(at, shape.cell);
+        if (!lane_agrees(shape, stripe, checks, v, set, at, n, lanes))
+            return 0;
+        at += n;
+    }
+    return 1;
+}
+
+static void fill_cells(struct zijraduf_shape shape, uint8_t *stripe, const uint8_t lanes[LANES],
+                       const uint64_t listed[SETS], const uint64_t sets[SETS], uint64_t lost, size_t at, size_t n)
+{
+    for (uint64_t k = 0; k < lost; k++)
+        add_lanes(stripe, listed[k] * shape.cell + at, lanes, sets[k], n);
+}
+
+static void fill_lane(struct zijraduf_shape shape, uint8_t *stripe, const uint64_t listed[SETS],
+                      const uint64_t sets[SETS], uint64_t lost, uint64_t set, size_t at, size_t n, uint8_t lanes[LANES])
+{
+    put_totals(shape, stripe, set, at, n, lanes);
+    fill_cells(shape, stripe, lanes, listed, sets, lost, at, n);
+}
+
+static void fill_lost(struct zijraduf_shape shape, uint8_t *stripe, const uint64_t listed[SETS],
+                      const uint64_t sets[SETS], uint64_t lost, uint8_t lanes[LANES])
+{
+    uint64_t set = union_of(sets, lost);
+    size_t at = 0;
+    while (at < shape.cell) {
+        size_t n = lane_bytes(at, shape.cell);
+        fill_lane(shape, stripe, listed, sets, lost, set, at, n, lanes);
+        at += n;
+    }
+}
+
+static uint64_t mend(struct zijraduf_shape shape, uint8_t *stripe, const uint64_t listed[SETS],
+                     const uint64_t sets[SETS], uint64_t lost, const uint64_t checks[SETS], uint64_t v)
+{
+    uint8_t lanes[LANES] = {0};
+    if (!survivors_agree(shape, stripe, checks, v, lanes))
+        return 12;
+    fill_lost(shape, stripe, listed, sets, lost, lanes);
+    return 0;
+}
+
+#endif
