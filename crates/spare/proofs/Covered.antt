@@ -19,7 +19,7 @@ use Rattle.xor.proofs.Sets.{count-same, count-never, count-all, count-parts, co
 use Rattle.codes.specs.declared.Shape.{Shape}
 use Rattle.codes.specs.declared.Counted.the-variants.{Count}
 use Rattle.codes.specs.Shape.{rows, cellNumber, stripeLength, WellFormed}
-use Rattle.codes.specs.Geometry.{columnOf, place}
+use Rattle.codes.specs.Geometry.{columnOf, cellAt, place}
 use Rattle.codes.specs.Agree.{Agree, inColumns, callersColumns}
 use Rattle.codes.specs.Encoded.{byteAt, Encoded}
 use Rattle.codes.proofs.Geometry.{place-down, place-inside}
@@ -115,7 +115,7 @@ module _ (s : Shape) (k : ℕ) where
 
     -- runs that cover all rows leave the lost column of the encoded stripe in the spare
     pub column-comes-back : (turn : Turn) (turns : List Turn) (old new : List ℕ) → length x ≡ stripeLength s → AllAgree s k (turn ∷ turns) x → Runs s k (turn ∷ turns) old new
-        → ((i : ℕ) → i < rows s → covers (turn ∷ turns) i ≡ true) → new ≡ take (rows s * s .cell) (drop (starts s lost) x)
+        → ((i : ℕ) → i < rows s → covers (turn ∷ turns) i ≡ true) → new ≡ take (rows s * s .cell) (drop (place s (cellAt s 0 k)) x)
     unfolding byteAt spareByte
     column-comes-back turn turns old new long agree h all =
         same-rows s w new (take (rows s * s .cell) (drop (starts s lost) x)) (runs-long (turn ∷ turns) old new h ∙ first .buffers .whole)
