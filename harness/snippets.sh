@@ -1,6 +1,7 @@
 #!/bin/sh
-# Tests the README's snippets: the one in C is compiled against the header and the library and run, the one in Rattle is the program that the
-# toolchain proves and runs, the one with a job prints what it says, and the example's output is what the example prints.
+# Tests the README's snippets: the one in C is compiled against the header and the library and run, the one in Rattle is a part of the program that
+# the toolchain proves and runs, whose line of crates.txt is the real one, the one with a job prints what it says, and the pictures are what the
+# example prints first. Then that prose is nowhere wider than 100 characters.
 #
 #   harness/snippets.sh [--lib FILE]
 #
@@ -29,9 +30,16 @@ kit_link "$BUILD/snippet" "$BUILD/snippet.o" "$LIB"
 kit_run "$BUILD/snippet"
 echo "the C snippet of README.md ran as it says"
 
+# part SMALL LARGE: whether the lines of a file stand in another, side by side.
+part() {
+    awk 'NR == FNR { small = small $0 "\n"; next } { large = large $0 "\n" } END { exit index("\n" large, "\n" small) == 0 }' "$1" "$2"
+}
+
 snippet rust "$BUILD/snippet.rt"
-diff "$BUILD/snippet.rt" "$ROOT/crates/example/src/main.rt"
-echo "the Rattle snippet of README.md is the example program"
+part "$BUILD/snippet.rt" "$ROOT/crates/example/src/main.rt" || { echo 'the Rattle snippet is no part of crates/example' >&2; exit 1; }
+line=$(grep '^example:' "$ROOT/crates.txt")
+grep -q -F "\`$line\`" "$ROOT/README.md" || { echo "README.md has not the line of crates.txt: $line" >&2; exit 1; }
+echo "the Rattle snippet of README.md is a part of the example program"
 
 snippet shell "$BUILD/snippet.sh"
 job() { kit_run "$ROOT/target/bin/job"; }
@@ -42,5 +50,12 @@ expected=$(sed -n '$s/^#//p' "$BUILD/snippet.sh")
 echo "the job snippet of README.md printed what it says"
 
 snippet text "$BUILD/snippet.txt"
-"$ROOT/harness/example.sh" 2>"$BUILD/example.log" | diff "$BUILD/snippet.txt" -
+"$ROOT/harness/example.sh" 2>"$BUILD/example.log" >"$BUILD/printed"
+head -n "$(wc -l <"$BUILD/snippet.txt")" "$BUILD/printed" | diff "$BUILD/snippet.txt" -
 echo "the example printed what README.md says"
+
+# Tables and blocks of code are as wide as they are.
+wide=$(cd "$ROOT" && LC_ALL=C.UTF-8 awk 'FNR == 1 { code = 0 } /^ *```/ { code = !code } !code && !/^\|/ && length > 100 { print FILENAME ": " FNR }' \
+    README.md docs/*.md docs/requests/*.md)
+[ -z "$wide" ] || { echo "wider than 100 characters: $wide" >&2; exit 1; }
+echo "no line of prose is wider than 100 characters"

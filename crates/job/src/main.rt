@@ -39,7 +39,8 @@ fn answer(job: &[u8]) {
     }
 }
 
-// No job is longer than 36,883 bytes: one byte more is read, so that a longer input is seen to be none. A job that can't be read whole is not answered.
+// No job is longer than 36,883 bytes: one byte more is read, so that a longer input is seen to be none. A job that can't be read whole is not
+// answered.
 fn main() {
     let mut input = [0u8; 36884];
     let Input::Bytes(n) = read_input(&mut input) else {
