@@ -21,7 +21,7 @@ kit_room() {
 
 # kit_second: makes SECOND the independent second program, built once for its sources.
 kit_second() {
-    kit_sum=$({ rustc --version && cat "$ROOT"/harness/compare/*.rs; } | sha256sum | cut -c 1-16)
+    kit_sum=$({ rustc --version && cat "$ROOT"/harness/compare/*.rs "$ROOT"/harness/compare/*/*.rs; } | sha256sum | cut -c 1-16)
     SECOND=$ROOT/target/second/$kit_sum
     [ ! -x "$SECOND" ] || return 0
     kit_new=$ROOT/target/second/new.$$
