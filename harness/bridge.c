@@ -10,8 +10,8 @@
  *
  * The loans are of the stripe, of new bytes, of the list of lost cells and of the
  * spare. A job is lent as new bytes are, and the output for its answer as the spare
- * is. A new operation is one more case in `carry_out`; one more lent buffer is one more
- * loan. */
+ * is. A new call is one more operation and its case in `carry_out`; one more lent buffer
+ * is one more loan. */
 #include "zijraduf.h"
 
 /* What is used of the C library, which has no headers here. */

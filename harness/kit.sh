@@ -19,16 +19,19 @@ kit_room() {
     trap 'exit 1' HUP INT TERM
 }
 
-# kit_second: makes SECOND the independent second program, built once for its sources.
+# kit_second: makes SECOND the independent second program, built once for its sources. Runs
+# that build it at once don't meet: each builds in a folder of its own, and moves it whole.
 kit_second() {
-    kit_sum=$({ rustc --version && cat "$ROOT"/harness/compare/*.rs "$ROOT"/harness/compare/*/*.rs; } | sha256sum | cut -c 1-16)
-    SECOND=$ROOT/target/second/$kit_sum
+    kit_sum=$(cd "$ROOT/harness/compare" && { rustc --version && find . -name '*.rs' -exec sha256sum {} + | sort; } | sha256sum)
+    SECOND=$ROOT/target/second/${kit_sum%% *}
     [ ! -x "$SECOND" ] || return 0
-    kit_new=$ROOT/target/second/new.$$
-    mkdir -p "$kit_new"
-    rustc --edition 2021 -O -o "$kit_new/compare" "$ROOT/harness/compare/main.rs"
-    mv "$kit_new/compare" "$SECOND"
+    mkdir -p "$ROOT/target/second"
+    kit_new=$(mktemp -d "$ROOT/target/second/new.XXXXXX")
+    if rustc --edition 2021 -O -o "$kit_new/compare" "$ROOT/harness/compare/main.rs"; then
+        mv "$kit_new/compare" "$SECOND"
+    fi
     rm -rf "$kit_new"
+    [ -x "$SECOND" ]
 }
 
 # The kit's clang comes without headers: stand-ins made of what it predefines.

@@ -1,6 +1,6 @@
 //! Compares the library with the second program, call by call.
 
-use crate::bridge::{Bridge, Buffer, Reply};
+use crate::bridge::{Bridge, Buffer};
 use crate::calls::CALLS;
 use crate::cases::all::All;
 use crate::cases::case::{Case, Filled, Pieces};
@@ -82,18 +82,18 @@ impl Comparison<'_> {
         // The list is the one buffer that isn't bytes, and no call writes it.
         let list: Vec<u8> = filled.lent.lost.iter().flat_map(|n| n.to_le_bytes()).collect();
         let reply = self.bridge.call(&case.call, &lent(case, filled, &list));
-        let Reply { guards, answer: came, lent } = reply.map_err(|end| format!("expected {answer}, {end}"))?;
-        for (guards, what) in guards.into_iter().zip(buffers(case)) {
+        let reply = reply.map_err(|end| format!("expected {answer}, {end}"))?;
+        for (guards, what) in reply.guards.into_iter().zip(buffers(case)) {
             if guards != 0 {
                 let side = ["", "before", "after", "on both sides of"][guards as usize % 4];
                 return Err(format!("memory {side} the {what} was changed"));
             }
         }
-        same_answer("came", answer, came)?;
-        for ((what, expected), came) in buffers(case).into_iter().zip(bytes(&after, &list)).zip(&lent) {
+        same_answer("came", answer, reply.answer)?;
+        for ((what, expected), came) in buffers(case).into_iter().zip(bytes(&after, &list)).zip(&reply.lent) {
             same_bytes("came", what, case, expected, came)?;
         }
-        let [.., spare] = lent;
+        let [.., spare] = reply.lent;
         Ok((answer, spare))
     }
 }

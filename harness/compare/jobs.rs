@@ -1,7 +1,9 @@
-//! Compares the program that reads jobs with the second program, a process a job.
+//! Compares the program that reads jobs with the second program, a process a job, and
+//! looks at what it does where it can't read.
 
 use crate::calls::CALLS;
 use crate::cases::all::All;
+use crate::failing;
 use crate::options::Options;
 use crate::program::Program;
 use crate::progress::Progress;
@@ -18,6 +20,10 @@ pub fn run(options: &Options, random: usize) -> Result<Tally, String> {
     let all = All::new(CALLS, &second, options.seed);
     let chosen = options.only.map_or_else(|| all.jobs(random), |n| vec![n]);
     let program = Program(&options.command);
+    if options.only.is_none() {
+        let reads = failing::run(&program).map_err(|found| format!("A FAILING READ: {found}"))?;
+        println!("{reads} processes whose reads fail: each says so and answers nothing");
+    }
     let mut progress = Progress::new(chosen.len());
     let mut tally = Tally::default();
     for n in chosen {

@@ -14,6 +14,7 @@ mod bridge;
 mod calls;
 mod cases;
 mod compare;
+mod failing;
 mod jobs;
 mod options;
 mod program;

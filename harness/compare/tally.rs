@@ -35,8 +35,10 @@ impl Tally {
             let Some(answers) = self.0.get(&row.operation.0) else {
                 continue;
             };
-            let part = |(answer, calls): (&(u64, u64), &usize)| format!("{}: {}", told(*answer), with_commas(*calls));
-            let parts: Vec<String> = answers.iter().map(part).collect();
+            let parts: Vec<String> = answers
+                .iter()
+                .map(|(answer, calls)| format!("{}: {}", told(*answer), with_commas(*calls)))
+                .collect();
             println!("  {} {} ({})", row.name, with_commas(answers.values().sum()), parts.join(", "));
         }
     }

@@ -43,8 +43,10 @@ impl All<'_> {
     /// The numbers of the jobs: those listed, without those that differ in room alone,
     /// and `random` random ones.
     pub fn jobs(&self, random: usize) -> Vec<usize> {
+        let is_random = |n: usize| n > self.listed();
         let is_job = |&n: &usize| {
-            self.case(n).sent.is_some_and(|sent| sent.room == Room::Enough || n > self.listed())
+            let sent = self.case(n).sent;
+            sent.is_some_and(|sent| sent.room == Room::Enough || is_random(n))
         };
         let listed = (1..=self.listed()).filter(is_job);
         listed.chain((self.listed() + 1..).filter(is_job).take(random)).collect()

@@ -34,13 +34,16 @@ pub struct Row {
     /// The answer of a call that isn't refused, where it is known without computing: from
     /// what the scope document says of all stripes, or from how this one was made.
     pub known: fn(&Case, &Layout) -> Option<Answer>,
-    /// What was lost of an encoded stripe, and where the call gives it back.
-    pub back: for<'a> fn(&Case, &'a Filled, &Answer, &'a Lent) -> Option<[&'a [u8]; 2]>,
+    /// What a call that is carried out gives back of an encoded stripe.
+    pub back: for<'a> fn(&Case, &'a Filled, &Answer, &'a Lent) -> Back<'a>,
     /// Lists cases, makes a random one, and how often, beside the other calls.
     pub list: fn(&mut Cases),
     pub random: fn(&mut Cases),
     pub share: usize,
 }
+
+/// The bytes that were lost, and those that are there after the call.
+pub type Back<'a> = Option<[&'a [u8]; 2]>;
 
 /// The new bytes of a small write: random, those that the cell holds, or those with
 /// one of them changed.

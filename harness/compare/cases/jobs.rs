@@ -1,6 +1,6 @@
 //! Which jobs are compared.
 
-use crate::cases::case::{Case, Cases, Filled};
+use crate::cases::case::{Back, Case, Cases, Filled};
 use crate::cases::fields::{Change, Room, Sent};
 use crate::cases::fills::{Fill, FILLS};
 use crate::cases::lists::{Base, Form, Found, Lost, Odd, FORMS};
@@ -37,12 +37,7 @@ pub fn known(case: &Case, layout: &Layout) -> Option<Answer> {
 }
 
 /// The stripe as it was before cells were lost, in the answer's last field.
-pub fn back<'a>(
-    case: &Case,
-    filled: &'a Filled,
-    answer: &Answer,
-    after: &'a Lent,
-) -> Option<[&'a [u8]; 2]> {
+pub fn back<'a>(case: &Case, filled: &'a Filled, answer: &Answer, after: &'a Lent) -> Back<'a> {
     case.sent.filter(|sent| sent.is_plain(case.call.shape))?;
     let answer = after.spare.get(..answer.length as usize)?;
     Some([&filled.whole, &answer[7..]])

@@ -1,6 +1,6 @@
 //! Which rebuilds are compared.
 
-use crate::cases::case::{Case, Cases, Filled};
+use crate::cases::case::{Back, Case, Cases, Filled};
 use crate::cases::fills::{Fill, FILLS};
 use crate::cases::lists::{Base, Form, Found, Lost, Odd, FORMS};
 use crate::cases::loans::{LOST, STRIPE};
@@ -23,7 +23,7 @@ pub fn known_columns(case: &Case, _: &Layout) -> Option<Answer> {
 }
 
 /// The stripe as it was before cells were lost.
-pub fn back<'a>(_: &Case, filled: &'a Filled, _: &Answer, after: &'a Lent) -> Option<[&'a [u8]; 2]> {
+pub fn back<'a>(_: &Case, filled: &'a Filled, _: &Answer, after: &'a Lent) -> Back<'a> {
     Some([&filled.whole, &after.stripe])
 }
 

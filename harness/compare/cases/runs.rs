@@ -1,6 +1,6 @@
 //! Which plans, runs and shows are compared.
 
-use crate::cases::case::{Case, Cases, Filled, Pieces};
+use crate::cases::case::{Back, Case, Cases, Filled, Pieces};
 use crate::cases::fills::{Fill, FILLS};
 use crate::cases::lists::{Base, Found, Lost};
 use crate::cases::loans::{SPARE, STRIPE};
@@ -27,12 +27,7 @@ pub fn known_plan(case: &Case, layout: &Layout) -> Option<Answer> {
 }
 
 /// The rebuilt rows of the lost column.
-pub fn back<'a>(
-    case: &Case,
-    filled: &'a Filled,
-    answer: &Answer,
-    after: &'a Lent,
-) -> Option<[&'a [u8]; 2]> {
+pub fn back<'a>(case: &Case, filled: &'a Filled, answer: &Answer, after: &'a Lent) -> Back<'a> {
     let [first, count, cell] = [case.call.first, answer.count, case.call.shape.cell].map(|n| n as usize);
     let rebuilt = first * cell..(first + count) * cell;
     Some([&case.column(filled)[rebuilt.clone()], &after.spare[rebuilt]])
@@ -261,7 +256,7 @@ impl Cases<'_> {
             }
         }
         for cell in 1..=4096 {
-            if cell % 31 == 0 || cell < 70 || cell > 4090 {
+            if cell % 31 == 0 || !(70..=4090).contains(&cell) {
                 self.some_run(3, cell);
             }
         }

@@ -36,9 +36,21 @@ pub struct Call {
 
 impl Call {
     pub const fn new(operation: Operation, shape: Shape, length: u64) -> Call {
-        let [row, column, bytes_length, spare_length, k, plan, first, budget, done] = [0; 9];
-        let columns = [0, 0];
-        Call { operation, shape, length, row, column, bytes_length, columns, spare_length, k, plan, first, budget, done }
+        Call {
+            operation,
+            shape,
+            length,
+            row: 0,
+            column: 0,
+            bytes_length: 0,
+            columns: [0, 0],
+            spare_length: 0,
+            k: 0,
+            plan: 0,
+            first: 0,
+            budget: 0,
+            done: 0,
+        }
     }
 
     /// The numbers that are told, lengths aside, in the order of the bridge's request.
@@ -101,6 +113,20 @@ impl Answer {
         Answer { refusal, count, finding, column, rows, reads, buffer, offset, length }
     }
 
+    /// The numbers beside the refusal.
+    fn given(&self) -> [(&'static str, u64); 8] {
+        [
+            ("count", self.count),
+            ("finding", self.finding),
+            ("column", self.column),
+            ("rows", self.rows),
+            ("reads", self.reads),
+            ("buffer", self.buffer),
+            ("offset", self.offset),
+            ("length", self.length),
+        ]
+    }
+
     pub const fn refused(refusal: u64) -> Answer {
         Answer { refusal, ..Answer::of([0; 9]) }
     }
@@ -129,11 +155,8 @@ impl Answer {
 impl fmt::Display for Answer {
     /// The refusal, and whatever else is not 0.
     fn fmt(&self, to: &mut fmt::Formatter) -> fmt::Result {
-        let Answer { refusal, count, finding, column, rows, reads, buffer, offset, length } = *self;
-        write!(to, "refusal {refusal}")?;
-        let named = [("count", count), ("finding", finding), ("column", column), ("rows", rows)];
-        let more = [("reads", reads), ("buffer", buffer), ("offset", offset), ("length", length)];
-        let mut given = named.into_iter().chain(more).filter(|(_, n)| *n != 0);
+        write!(to, "refusal {}", self.refusal)?;
+        let mut given = self.given().into_iter().filter(|(_, n)| *n != 0);
         given.try_for_each(|(name, n)| write!(to, " {name} {n}"))
     }
 }
