@@ -35,10 +35,8 @@ const PATIENCE: Duration = Duration::from_secs(5);
 
 /// Gives how many processes were started, or what went wrong.
 pub fn run(program: &Program) -> Result<usize, String> {
-    let at_once = [("a directory", File::open("/")), ("a file to be written", writable())];
-    for (what, file) in at_once {
-        let file = file.map_err(|error| error.to_string())?;
-        program.fails(what, Stdio::from(file))?;
+    for (what, file) in [("a directory", File::open("/")), ("a file to be written", writable())] {
+        program.fails(what, Stdio::from(file.map_err(told)?))?;
     }
     for cut in 0..=JOB_BYTES.len() {
         let part = &JOB_BYTES[..cut];

@@ -37,11 +37,13 @@ impl Program<'_> {
             output.read_to_end(&mut came)
         });
         let status = child.wait();
-        let [job, expected_bytes, came_bytes] = [job, expected, &came[..]].map(in_hexadecimal);
-        let told = format!("\n  job      {job}\n  expected {expected_bytes}\n  came     {came_bytes}");
+        let at = expected.iter().zip(&came).take_while(|(expected, came)| expected == came).count();
+        let told = [("job", job), ("expected", expected), ("came", &came)]
+            .map(|(what, bytes)| format!("\n  {what:8} {}", in_hexadecimal(bytes)))
+            .concat();
         match (read, status) {
             (Ok(_), Ok(status)) if status.success() && came == expected => Ok(()),
-            (Ok(_), Ok(status)) if status.success() => Err(format!("another answer{told}")),
+            (Ok(_), Ok(status)) if status.success() => Err(format!("another answer from byte {at} on{told}")),
             (read, status) => Err(format!("the program ended badly ({read:?}, {status:?}){told}")),
         }
     }

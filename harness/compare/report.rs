@@ -1,6 +1,7 @@
 //! What is said of a difference.
 
-use crate::cases::case::{Case, Filled};
+use crate::cases::case::{Case, Filled, New, Pieces};
+use crate::cases::lists::Lost;
 use crate::cases::loans::{Loan, Place, BUFFERS};
 use crate::second::call::Answer;
 
@@ -33,7 +34,7 @@ pub fn same_bytes(who: &str, what: &str, case: &Case, expected: &[u8], came: &[u
     Err(format!("{place}: expected {}, {who} {}", byte(expected), byte(came)))
 }
 
-/// The one line about a call: the numbers that aren't 0, how the buffers were lent and
+/// The one line about a call: the numbers that aren't 0, how the buffers are lent and
 /// filled, and what was found.
 pub fn difference(case: &Case, filled: &Filled, found: &str, replay: &str) -> String {
     let numbers = case.call.numbers().into_iter().filter(|(_, n)| *n != 0);
@@ -41,14 +42,13 @@ pub fn difference(case: &Case, filled: &Filled, found: &str, replay: &str) -> St
     let loans = case.loans.iter().zip(buffers(case)).zip(case.claimed(filled));
     let lent = loans.filter(|((loan, _), claimed)| loan.place != Place::Null || *claimed != 0);
     told.extend(lent.map(|((loan, name), claimed)| format!("{name} of {claimed} ({})", lies(loan))));
-    told.push(format!("({:?}, {:?}, {:?}, {:?})", case.fill, case.new, case.lost, case.pieces));
-    if !filled.lent.lost.is_empty() {
-        told.push(format!("lost={}", shortened(&filled.lent.lost)));
-    }
-    if let Some(sent) = case.sent {
-        told.push(format!("{sent:?} bytes={}", in_hexadecimal(&filled.lent.bytes)));
-    }
-    format!("DIFFERENT: {} {}: {found}; replay: {replay}", case.row.name, told.join(" "))
+    told.push(format!("{:?}", case.fill));
+    told.extend((case.new != New::Random).then(|| format!("{:?}", case.new)));
+    told.extend((case.lost != Lost::NONE).then(|| format!("{:?}", case.lost)));
+    told.extend((case.pieces != Pieces::One).then(|| format!("pieces {:?}", case.pieces)));
+    told.extend((!filled.lent.lost.is_empty()).then(|| format!("lost {}", shortened(&filled.lent.lost))));
+    told.extend(case.sent.map(|sent| format!("{sent:?} {}", in_hexadecimal(&filled.lent.bytes))));
+    format!("DIFFERENT: {} {}: {found}; replay: {replay}", case.row.name, told.join(", "))
 }
 
 fn lies(loan: &Loan) -> String {

@@ -5,7 +5,7 @@ use crate::second::call::Call;
 use crate::second::layout::Layout;
 
 /// The lost cells: those of a base, less some of them, and some others more.
-#[derive(Clone, Copy, Debug)]
+#[derive(Clone, Copy, PartialEq, Debug)]
 pub struct Lost {
     pub base: Base,
     pub less: usize,
