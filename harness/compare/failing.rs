@@ -33,19 +33,25 @@ const RACES: usize = 100;
 /// How long a program that doesn't end is left without the rest of its job.
 const PATIENCE: Duration = Duration::from_secs(5);
 
-/// Gives how many processes were started, or what went wrong.
+/// Gives how many processes had a read that failed, or what went wrong.
 pub fn run(program: &Program) -> Result<usize, String> {
+    let mut failed = 0;
     for (what, file) in [("a directory", File::open("/")), ("a file to be written", writable())] {
         program.fails(what, Stdio::from(file.map_err(told)?))?;
+        failed += 1;
     }
     for cut in 0..=JOB_BYTES.len() {
         let part = &JOB_BYTES[..cut];
         program.fails(&format!("{cut} bytes, an error, the end"), stream(part).map_err(told)?)?;
         program.drained(cut)?;
+        failed += 2;
     }
     program.fails("an error, the job, the end", packets(&JOB_BYTES).map_err(told)?)?;
-    (0..RACES).try_for_each(|n| program.raced(n % JOB_BYTES.len()))?;
-    Ok(2 + 2 * (JOB_BYTES.len() + 1) + 1 + RACES)
+    failed += 1;
+    for n in 0..RACES {
+        failed += program.raced(n % JOB_BYTES.len())? as usize;
+    }
+    Ok(failed)
 }
 
 fn told(error: io::Error) -> String {
@@ -121,8 +127,8 @@ impl Program<'_> {
 
     /// The other bytes of the job come one by one, each as soon as those before it are
     /// read: some read fails, and a byte may come right after it; or none fails, and the
-    /// answer is right.
-    fn raced(&self, cut: usize) -> Result<(), String> {
+    /// answer is right. Gives which.
+    fn raced(&self, cut: usize) -> Result<bool, String> {
         let (part, rest) = JOB_BYTES.split_at(cut);
         let (input, mut writer) = nonblocking(part).map_err(told)?;
         let child = self.start(input, Stdio::piped())?;
@@ -142,9 +148,10 @@ impl Program<'_> {
             output
         })?;
         if output.stderr.is_empty() && output.stdout == JOB_ANSWER {
-            return Ok(());
+            return Ok(false);
         }
-        has_failed(&output).map_err(|found| format!("{cut} bytes, the others one by one: {found}"))
+        has_failed(&output).map_err(|found| format!("{cut} bytes, the others one by one: {found}"))?;
+        Ok(true)
     }
 }
 

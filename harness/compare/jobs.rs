@@ -21,8 +21,8 @@ pub fn run(options: &Options, random: usize) -> Result<Tally, String> {
     let chosen = options.only.map_or_else(|| all.jobs(random), |n| vec![n]);
     let program = Program(&options.command);
     if options.only.is_none() {
-        let reads = failing::run(&program).map_err(|found| format!("A FAILING READ: {found}"))?;
-        println!("{reads} processes whose reads fail: each says so and answers nothing");
+        let failed = failing::run(&program).map_err(|found| format!("A FAILING READ: {found}"))?;
+        println!("{failed} processes had a read that failed: each said so and answered nothing");
     }
     let mut progress = Progress::new(chosen.len());
     let mut tally = Tally::default();
