@@ -31,8 +31,8 @@ if [ -n "$SAME" ]; then
     LIB=$BUILD/same.o
     kit_cc "$ROOT/harness/bench/same.c" "$LIB" -fhosted -I"$ROOT/include" -DAS_EXPORTS
 elif [ -z "$LIB" ]; then
-    (cd "$ROOT" && rt staticlib zijraduf)
-    LIB=$ROOT/target/staticlib/libzijraduf.a
+    LIB=$BUILD/libzijraduf.a
+    kit_rt staticlib/libzijraduf.a staticlib zijraduf
 fi
 kit_second
 kit_cc "$ROOT/harness/bridge.c" "$BUILD/bridge.o" -I"$ROOT/include"

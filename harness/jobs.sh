@@ -22,9 +22,10 @@ while [ $# -gt 0 ]; do
     esac
 done
 
+kit_room
 if [ -z "$PROGRAM" ]; then
-    (cd "$ROOT" && rt check job) >&2
-    PROGRAM=$ROOT/target/bin/job
+    PROGRAM=$BUILD/job
+    kit_rt bin/job check job >&2
 fi
 kit_second
 

@@ -19,6 +19,20 @@ kit_room() {
     trap 'exit 1' HUP INT TERM
 }
 
+# kit_rt FILE WORDS...: has rt make target/FILE, for one run at a time, and keeps a copy of
+# it in BUILD, where no other run builds.
+kit_rt() {
+    kit_file=$1
+    shift
+    mkdir -p "$ROOT/target"
+    (
+        cd "$ROOT"
+        flock 9
+        rt "$@" 9>&-
+        cp "target/$kit_file" "$BUILD"
+    ) 9>"$ROOT/target/building"
+}
+
 # kit_second: makes SECOND the independent second program, built once for its sources. Runs
 # that build it at once don't meet: each builds in a folder of its own, and moves it whole.
 kit_second() {
