@@ -10,8 +10,8 @@
  *
  * The loans are of the stripe, of new bytes, of the list of lost cells and of the
  * spare. A job is lent as new bytes are, and the output for its answer as the spare
- * is. A new operation is one more case in `carry_out`; one more lent buffer is one more
- * loan. */
+ * is. A new call is one more operation and its case in `carry_out`; one more lent buffer
+ * is one more loan. */
 #include "zijraduf.h"
 
 /* What is used of the C library, which has no headers here. */
@@ -34,13 +34,15 @@ enum {
 
 enum place { MIDDLE, BEFORE_PAGE, AFTER_PAGE, NOWHERE };
 
+/* Sealed bytes and their guards can't be written during the call. Closed ones can't be
+ * read either: of a call that reads no byte. */
+enum seal { OPEN, SEALED, CLOSED };
+
 /* How bytes are lent: how many there are, the length that the call is told (of lost
  * cells: the count), and where they lie: in the middle at `offset` from a multiple of
- * 64, right before or right after an inaccessible page, or nowhere (NULL). Sealed
- * bytes and their guards can't be written during the call, and during a show, which
- * reads no byte, not be read either. */
+ * 64, right before or right after an inaccessible page, or nowhere (NULL). */
 struct loan {
-    uint64_t given, claimed, place, offset, sealed;
+    uint64_t given, claimed, place, offset, seal;
 };
 
 enum operation {
@@ -143,20 +145,20 @@ static void set_rights(const struct room *room, int rights) {
 }
 
 static int is_sealed(const struct loan *loan) {
-    return loan->sealed && loan->place != NOWHERE;
+    return loan->seal != OPEN && loan->place != NOWHERE;
 }
 
 /* Takes the bytes of a loan into the room, and sets the rights to sealed ones. Bytes
  * that lie nowhere have no guards. */
-static void lend(struct room *room, const struct loan *loan, int sealed_rights) {
-    if (loan->given > MOST || loan->offset >= 64 || loan->place > NOWHERE) exit(3);
+static void lend(struct room *room, const struct loan *loan) {
+    if (loan->given > MOST || loan->offset >= 64 || loan->place > NOWHERE || loan->seal > CLOSED) exit(3);
     room->start = room->floor;
     if (loan->place == MIDDLE) room->start += GUARD + loan->offset;
     if (loan->place == BEFORE_PAGE) room->start += ROOM - loan->given;
     room->end = loan->place == NOWHERE ? room->floor + ROOM : room->start + loan->given;
     set_guards(room);
     if (loan->given > 0 && !take(room->start, loan->given)) exit(3);
-    if (is_sealed(loan)) set_rights(room, sealed_rights);
+    if (is_sealed(loan)) set_rights(room, loan->seal == CLOSED ? RIGHT_NONE : RIGHT_READ);
 }
 
 static uint8_t *lent(const struct room *room, const struct loan *loan) {
@@ -226,9 +228,8 @@ int main(void) {
     const struct loan *loans = request.loans;
     while (take(&request, sizeof request)) {
         uint8_t *at[LOANS];
-        int sealed_rights = request.operation == SHOW ? RIGHT_NONE : RIGHT_READ;
         for (int k = 0; k < LOANS; k++) {
-            lend(&rooms[k], &loans[k], sealed_rights);
+            lend(&rooms[k], &loans[k]);
             at[k] = lent(&rooms[k], &loans[k]);
         }
         /* The list is of 64-bit numbers: C wants it where such numbers may lie. */

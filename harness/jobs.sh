@@ -1,5 +1,6 @@
 #!/bin/sh
-# Compares the job program with the independent second program, a process a job.
+# Compares the job program with the independent second program, a process a job. Before
+# that it is given inputs that it can't read, or not to the end: it has to say so.
 #
 #   harness/jobs.sh [--program FILE] [--seed N] [--only N] [--jobs N]
 #
@@ -17,13 +18,14 @@ while [ $# -gt 0 ]; do
     --program) PROGRAM=${2:?--program wants a file}; shift 2 ;;
     --jobs) JOBS=${2:?--jobs wants a number}; shift 2 ;;
     --seed | --only) OPTIONS="$OPTIONS $1 ${2:?$1 wants a number}"; shift 2 ;;
-    *) echo "usage: harness/jobs.sh [--program FILE] [--seed N] [--only N] [--jobs N]" >&2; exit 2 ;;
+    *) sed -n 's/^#   harness/usage: harness/p' "$0" >&2; exit 2 ;;
     esac
 done
 
+kit_room
 if [ -z "$PROGRAM" ]; then
-    (cd "$ROOT" && rt check job) >&2
-    PROGRAM=$ROOT/target/bin/job
+    PROGRAM=$BUILD/job
+    kit_rt bin/job check job >&2
 fi
 kit_second
 

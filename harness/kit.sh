@@ -19,16 +19,33 @@ kit_room() {
     trap 'exit 1' HUP INT TERM
 }
 
-# kit_second: makes SECOND the independent second program, built once for its sources.
+# kit_rt FILE WORDS...: has rt make target/FILE, for one run at a time, and keeps a copy of
+# it in BUILD, where no other run builds.
+kit_rt() {
+    kit_file=$1
+    shift
+    mkdir -p "$ROOT/target"
+    (
+        cd "$ROOT"
+        flock 9
+        rt "$@" 9>&-
+        cp "target/$kit_file" "$BUILD"
+    ) 9>"$ROOT/target/building"
+}
+
+# kit_second: makes SECOND the independent second program, built once for its sources. Runs
+# that build it at once don't meet: each builds in a folder of its own, and moves it whole.
 kit_second() {
-    kit_sum=$({ rustc --version && cat "$ROOT"/harness/compare/*.rs; } | sha256sum | cut -c 1-16)
-    SECOND=$ROOT/target/second/$kit_sum
+    kit_sum=$(cd "$ROOT/harness/compare" && { rustc --version && find . -name '*.rs' -exec sha256sum {} + | sort; } | sha256sum)
+    SECOND=$ROOT/target/second/${kit_sum%% *}
     [ ! -x "$SECOND" ] || return 0
-    kit_new=$ROOT/target/second/new.$$
-    mkdir -p "$kit_new"
-    rustc --edition 2021 -O -o "$kit_new/compare" "$ROOT/harness/compare/main.rs"
-    mv "$kit_new/compare" "$SECOND"
+    mkdir -p "$ROOT/target/second"
+    kit_new=$(mktemp -d "$ROOT/target/second/new.XXXXXX")
+    if rustc --edition 2021 -O -o "$kit_new/compare" "$ROOT/harness/compare/main.rs"; then
+        mv "$kit_new/compare" "$SECOND"
+    fi
     rm -rf "$kit_new"
+    [ -x "$SECOND" ]
 }
 
 # The kit's clang comes without headers: stand-ins made of what it predefines.

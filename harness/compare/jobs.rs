@@ -1,74 +1,46 @@
-//! The second program's job: reads the fields, rebuilds and writes the answer.
+//! Compares the program that reads jobs with the second program, a process a job, and
+//! looks at what it does where it can't read.
 
-use crate::second::{Answer, Call, Operation, Second, Shape};
+use crate::calls::CALLS;
+use crate::cases::all::All;
+use crate::failing;
+use crate::options::Options;
+use crate::program::Program;
+use crate::progress::Progress;
+use crate::random::Random;
+use crate::second::call::Answer;
+use crate::second::job;
+use crate::second::shapes::Second;
+use crate::tally::Tally;
 
-/// What the fields of a job say.
-struct Job {
-    shape: Shape,
-    lost: Vec<u64>,
-    stripe: Vec<u8>,
-}
-
-const MOST_LOST: usize = 2048;
-const MOST_BYTES: usize = 32_768;
-const NO_JOB: u64 = 13;
-
-/// Tag and content of each field, of bytes that are fields to the end.
-fn fields(mut bytes: &[u8]) -> Option<Vec<(u8, &[u8])>> {
-    let mut fields = Vec::new();
-    while !bytes.is_empty() {
-        let (head, rest) = bytes.split_at_checked(3)?;
-        let (content, rest) = rest.split_at_checked(number(&head[1..]) as usize)?;
-        fields.push((head[0], content));
-        bytes = rest;
+/// The listed jobs and `random` random ones. Gives what was compared, or the line that says
+/// what went wrong.
+pub fn run(options: &Options, random: usize) -> Result<Tally, String> {
+    let second = Second::new();
+    let all = All::new(CALLS, &second, options.seed);
+    let chosen = options.only.map_or_else(|| all.jobs(random), |n| vec![n]);
+    let program = Program(&options.command);
+    if options.only.is_none() {
+        let failed = failing::run(&program).map_err(|found| format!("A FAILING READ: {found}"))?;
+        println!("{failed} processes had a read that failed: each said so and answered nothing");
     }
-    Some(fields)
-}
-
-/// Of two bytes, high byte first.
-fn number(bytes: &[u8]) -> u64 {
-    bytes[0] as u64 * 256 + bytes[1] as u64
-}
-
-fn read(bytes: &[u8]) -> Option<Job> {
-    let (code, p, cell, lost, stripe) = match fields(bytes)?[..] {
-        [(1, code), (2, p), (3, cell), (4, lost), (5, stripe)] => (code, p, Some(cell), lost, stripe),
-        [(1, code), (2, p), (4, lost), (5, stripe)] => (code, p, None, lost, stripe),
-        _ => return None,
-    };
-    let sizes = [code.len() == 1, p.len() == 1, cell.is_none_or(|cell| cell.len() == 2)];
-    let lists = [lost.len() % 2 == 0, lost.len() / 2 <= MOST_LOST, stripe.len() <= MOST_BYTES];
-    if sizes.contains(&false) || lists.contains(&false) {
-        return None;
-    }
-    let cell = cell.map_or(512, number);
-    let shape = Shape { code: code[0] as u64, p: p[0] as u64, cell };
-    Some(Job { shape, lost: lost.chunks(2).map(number).collect(), stripe: stripe.to_vec() })
-}
-
-impl Second {
-    /// What a job is answered.
-    pub fn answer(&self, bytes: &[u8]) -> Result<Vec<u8>, String> {
-        let Some(Job { shape, lost, mut stripe }) = read(bytes) else {
-            return Ok(vec![6, 0, 1, NO_JOB as u8]);
+    let mut progress = Progress::new(chosen.len());
+    let mut tally = Tally::default();
+    for n in chosen {
+        let case = all.case(n);
+        let Some(sent) = case.sent else {
+            return Err(format!("case {n} is no job"));
         };
-        let call = Call::new(Operation::RebuildCells, shape, stripe.len() as u64);
-        let refusal = self.call(&call, &mut stripe, &[], &lost, &mut [])?.refusal;
-        let mut answer = vec![6, 0, 1, refusal as u8];
-        if refusal == 0 {
-            answer.extend([5, (stripe.len() / 256) as u8, (stripe.len() % 256) as u8]);
-            answer.extend(stripe);
+        let job = case.filled(&second, options.seed, n).lent.bytes;
+        let expected = job::answer(&second, &job).map_err(|found| format!("the second program: {found}"))?;
+        if let Err(found) = program.same_answer(&job, &expected, &mut Random::new(options.seed, n as u64)) {
+            progress.end();
+            let replay = format!("harness/jobs.sh --seed {} --only {n}", options.seed);
+            return Err(format!("DIFFERENT: job ({sent:?}): {found}\n  replay: {replay}"));
         }
-        Ok(answer)
+        tally.add(case.row, Answer::answered(expected[3] as u64, expected.len() as u64));
+        progress.step();
     }
-
-    /// Puts the answer where there is room for it.
-    pub fn job(&self, bytes: &[u8], output: &mut [u8]) -> Result<Answer, String> {
-        let answer = self.answer(bytes)?;
-        let room = answer.len() <= output.len();
-        if room {
-            output[..answer.len()].copy_from_slice(&answer);
-        }
-        Ok(Answer::answered(if room { answer[3] as u64 } else { 0 }, answer.len() as u64))
-    }
+    progress.end();
+    Ok(tally)
 }

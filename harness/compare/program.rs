@@ -1,8 +1,9 @@
 //! The program that reads a job on its standard input.
 
 use crate::random::Random;
+use crate::report::in_hexadecimal;
 use std::io::{Read, Write};
-use std::process::{Command, Stdio};
+use std::process::{Child, Command, Stdio};
 use std::thread;
 use std::time::Duration;
 
@@ -10,14 +11,15 @@ use std::time::Duration;
 pub struct Program<'a>(pub &'a [String]);
 
 impl Program<'_> {
+    pub fn start(&self, input: Stdio, errors: Stdio) -> Result<Child, String> {
+        let mut command = Command::new(&self.0[0]);
+        command.args(&self.0[1..]).stdin(input).stdout(Stdio::piped()).stderr(errors);
+        command.spawn().map_err(|error| format!("the program: {error}"))
+    }
+
     /// Gives a job to a fresh process, and has it write that answer and end well.
     pub fn same_answer(&self, job: &[u8], expected: &[u8], random: &mut Random) -> Result<(), String> {
-        let mut child = Command::new(&self.0[0])
-            .args(&self.0[1..])
-            .stdin(Stdio::piped())
-            .stdout(Stdio::piped())
-            .spawn()
-            .map_err(|error| format!("the program: {error}"))?;
+        let mut child = self.start(Stdio::piped(), Stdio::inherit())?;
         let mut input = child.stdin.take().expect("a pipe");
         let mut output = child.stdout.take().expect("a pipe");
         let parts = parts(job, random);
@@ -35,11 +37,13 @@ impl Program<'_> {
             output.read_to_end(&mut came)
         });
         let status = child.wait();
-        let told =
-            format!("\n  job      {}\n  expected {}\n  came     {}", hex(job), hex(expected), hex(&came));
+        let at = expected.iter().zip(&came).take_while(|(expected, came)| expected == came).count();
+        let told = [("job", job), ("expected", expected), ("came", &came)]
+            .map(|(what, bytes)| format!("\n  {what:8} {}", in_hexadecimal(bytes)))
+            .concat();
         match (read, status) {
             (Ok(_), Ok(status)) if status.success() && came == expected => Ok(()),
-            (Ok(_), Ok(status)) if status.success() => Err(format!("another answer{told}")),
+            (Ok(_), Ok(status)) if status.success() => Err(format!("another answer from byte {at} on{told}")),
             (read, status) => Err(format!("the program ended badly ({read:?}, {status:?}){told}")),
         }
     }
@@ -56,9 +60,4 @@ fn parts<'a>(job: &'a [u8], random: &mut Random) -> Vec<&'a [u8]> {
     }
     parts.push(rest);
     parts
-}
-
-fn hex(bytes: &[u8]) -> String {
-    let digits: Vec<String> = bytes.iter().map(|byte| format!("{byte:02X}")).collect();
-    format!("({} bytes) {}", bytes.len(), digits.join(" "))
 }

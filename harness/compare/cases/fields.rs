@@ -1,7 +1,7 @@
 //! How the bytes of a job are made, and how much room there is for its answer.
 
 use crate::random::Random;
-use crate::second::Shape;
+use crate::second::call::Shape;
 
 /// A job is made of a shape, a list of lost cells and a stripe, with or without the
 /// field of the cell size; then something of it is changed.

@@ -1,11 +1,16 @@
 //! Which plans, runs and shows are compared.
 
-use crate::cases::{any_p, codes, edge_shapes, Case, Cases, Pieces, CODES, SOME_CELLS, SOME_P};
-use crate::fills::{Fill, FILLS};
-use crate::lists::{Base, Found, Lost};
-use crate::rebuilds::{outside, LARGE_CELLS, SMALL_CELLS};
-use crate::second::{Call, Operation, Shape, PRIMES};
-use Operation::{Plan, Run, Show};
+use crate::cases::case::{Back, Case, Cases, Filled, Pieces};
+use crate::cases::fills::{Fill, FILLS};
+use crate::cases::lists::{Base, Found, Lost};
+use crate::cases::loans::{SPARE, STRIPE};
+use crate::cases::shapes::{any_p, codes, edge_shapes, outside};
+use crate::cases::shapes::{CODES, LARGE_CELLS, SMALL_CELLS, SOME_CELLS, SOME_P};
+use crate::random::Random;
+use crate::second::call::{Answer, Call, Lent, Operation, Shape};
+use crate::second::layout::Layout;
+use crate::second::shapes::PRIMES;
+use crate::second::spare::{PLAN, RUN, SHOW};
 
 /// Where every plan, row and column is tried.
 const SMALL_PRIMES: [u64; 3] = [3, 5, 7];
@@ -13,6 +18,40 @@ const SMALL_PRIMES: [u64; 3] = [3, 5, 7];
 /// Every p of RDP with every column.
 fn lost_columns() -> impl Iterator<Item = (u64, u64)> {
     PRIMES.into_iter().flat_map(|p| (0..=p).map(move |k| (p, k)))
+}
+
+pub fn known_plan(case: &Case, layout: &Layout) -> Option<Answer> {
+    let (k, rows) = (case.call.k, layout.rows as u64);
+    let reads = if k == case.call.shape.p { rows * rows } else { 3 * rows * rows / 4 };
+    Some(Answer::planned(layout.rule(k as usize), reads))
+}
+
+/// The rebuilt rows of the lost column.
+pub fn back<'a>(case: &Case, filled: &'a Filled, answer: &Answer, after: &'a Lent) -> Back<'a> {
+    let [first, count, cell] = [case.call.first, answer.count, case.call.shape.cell].map(|n| n as usize);
+    let rebuilt = first * cell..(first + count) * cell;
+    Some([&case.column(filled)[rebuilt.clone()], &after.spare[rebuilt]])
+}
+
+impl Case {
+    /// The lost column, as it was.
+    pub fn column<'a>(&self, filled: &'a Filled) -> &'a [u8] {
+        let length = filled.lent.spare.len();
+        &filled.whole[self.call.k as usize * length..][..length]
+    }
+
+    /// Moves a run on by the rows rebuilt. Gives whether there is a next piece of it.
+    pub fn go_on(&mut self, rebuilt: u64, random: &mut Random) -> bool {
+        if self.pieces == Pieces::One {
+            return false;
+        }
+        let rows = self.call.shape.p - 1;
+        self.call.first += rebuilt;
+        if self.pieces == Pieces::Random {
+            self.call.budget = random.below(rows as usize + 1) as u64;
+        }
+        self.call.first < rows
+    }
 }
 
 impl Cases<'_> {
@@ -42,7 +81,7 @@ impl Cases<'_> {
     }
 
     fn push_plan(&mut self, shape: Shape, k: u64) {
-        let case = self.case(Call { k, ..Call::new(Plan, shape, 0) }, Fill::Random);
+        let case = self.case(Call { k, ..Call::new(PLAN, shape, 0) }, Fill::Random);
         self.list.push(case);
     }
 
@@ -81,13 +120,13 @@ impl Cases<'_> {
 
     /// A run of the whole column.
     fn whole(&self, p: u64, cell: u64, k: u64, plan: u64) -> Call {
-        Call { plan, budget: p - 1, ..self.spare_call(Run, Shape { code: 1, p, cell }, k) }
+        Call { plan, budget: p - 1, ..self.spare_call(RUN, Shape { code: 1, p, cell }, k) }
     }
 
     /// Junk is found in the lost column, or in every cell that the plan doesn't read.
     fn push_run(&mut self, call: Call, fill: Fill, pieces: Pieces) {
         let k = call.k as usize;
-        let good = self.second.refusal(&call, &[]) == 0;
+        let good = !self.is_refused(&call);
         let base = match self.random.below(2) {
             _ if !good => Base::Empty,
             0 => Base::Unread(k, call.plan),
@@ -129,7 +168,7 @@ impl Cases<'_> {
                 let cell = self.some_cell(p);
                 let call = self.whole(p, cell, k, plan);
                 self.push_run(call, Fill::Encoded, Pieces::One);
-                if self.second.refusal(&call, &[]) == 0 {
+                if !self.is_refused(&call) {
                     let fill = self.random.one_of(&FILLS);
                     self.push_run(call, fill, Pieces::One);
                     self.push_run(Call { budget: 1, ..call }, Fill::Encoded, Pieces::Same);
@@ -211,13 +250,13 @@ impl Cases<'_> {
                     for spare in self.places() {
                         self.some_run(p, cell);
                         let case = self.list.last_mut().expect("a run");
-                        (case.stripe.place, case.spare.place) = (stripe, spare);
+                        (case.loans[STRIPE].place, case.loans[SPARE].place) = (stripe, spare);
                     }
                 }
             }
         }
         for cell in 1..=4096 {
-            if cell % 31 == 0 || cell < 70 || cell > 4090 {
+            if cell % 31 == 0 || !(70..=4090).contains(&cell) {
                 self.some_run(3, cell);
             }
         }
@@ -258,15 +297,15 @@ impl Cases<'_> {
                 let call = Call { length, spare_length, ..good };
                 self.push_run(call, Fill::Random, Pieces::One);
                 self.push_run(Call { k: p + 1, plan: u64::MAX, ..call }, Fill::Random, Pieces::One);
-                self.push_show(Call { operation: Show, ..call });
-                self.push_show(Call { operation: Show, done: p, ..call });
+                self.push_show(Call { operation: SHOW, ..call });
+                self.push_show(Call { operation: SHOW, done: p, ..call });
             }
         }
     }
 
     /// Parameters good and bad in all combinations: the lowest refusal number must come.
     fn bad_runs(&mut self) {
-        for (call, p) in self.bad_lent(Run) {
+        for (call, p) in self.bad_lent(RUN) {
             for k in [1, p + 1] {
                 for first in [0, p, u64::MAX] {
                     for plan in [0, u64::MAX] {
@@ -278,9 +317,9 @@ impl Cases<'_> {
         }
         for (shape, length) in any_p() {
             let spare_length = if shape.code == 3 { shape.p } else { shape.p.wrapping_sub(1) };
-            let call = Call { spare_length, budget: 1, ..Call::new(Run, shape, length) };
+            let call = Call { spare_length, budget: 1, ..Call::new(RUN, shape, length) };
             self.push_run(call, Fill::Random, Pieces::One);
-            self.push_show(Call { operation: Show, ..call });
+            self.push_show(Call { operation: SHOW, ..call });
         }
     }
 
@@ -309,7 +348,7 @@ impl Cases<'_> {
     }
 
     fn show(&self, p: u64, cell: u64, [k, done, row, column]: [u64; 4]) -> Call {
-        Call { done, row, column, ..self.spare_call(Show, Shape { code: 1, p, cell }, k) }
+        Call { done, row, column, ..self.spare_call(SHOW, Shape { code: 1, p, cell }, k) }
     }
 
     /// Every lost column, rows done, row and column, up to one past the last of each.
@@ -370,7 +409,7 @@ impl Cases<'_> {
     }
 
     fn bad_shows(&mut self) {
-        for (call, p) in self.bad_lent(Show) {
+        for (call, p) in self.bad_lent(SHOW) {
             for [k, done, row, column] in
                 [[1, 1, 0, 1], [1, 0, 0, 1], [1, 0, 0, 0], [p + 1, 0, 0, 0], [1, p, 0, 1], [1, 0, p - 1, 1]]
             {

@@ -1,11 +1,14 @@
 //! Which jobs are compared.
 
-use crate::bridge::Place;
-use crate::cases::{codes, Case, Cases};
-use crate::fields::{Change, Room, Sent};
-use crate::fills::{Fill, FILLS};
-use crate::lists::{Base, Form, Found, Lost, Odd, FORMS};
-use crate::second::{Call, Operation::Job, Shape};
+use crate::cases::case::{Back, Case, Cases, Filled};
+use crate::cases::fields::{Change, Room, Sent};
+use crate::cases::fills::{Fill, FILLS};
+use crate::cases::lists::{Base, Form, Found, Lost, Odd, FORMS};
+use crate::cases::loans::{Place, BYTES, SPARE};
+use crate::cases::shapes::codes;
+use crate::second::call::{Answer, Call, Lent, Shape};
+use crate::second::job::JOB;
+use crate::second::layout::Layout;
 
 /// The most bytes of a stripe and lost cells in a job, and the longest job, which has
 /// both.
@@ -23,6 +26,23 @@ const BASES: [(Shape, bool); 4] = [
     (Shape { code: 3, p: 11, cell: 259 }, true),
 ];
 
+/// As for the rebuild of these cells, where the job says so and there is room.
+pub fn known(case: &Case, layout: &Layout) -> Option<Answer> {
+    let sent = case.sent.filter(|sent| sent.is_plain(case.call.shape) && sent.room == Room::Enough);
+    match case.lost.determined(layout).filter(|_| sent.is_some())? {
+        false => Some(Answer::answered(11, 4)),
+        true if case.fill == Fill::Encoded => Some(Answer::answered(0, 7 + case.call.length)),
+        true => None,
+    }
+}
+
+/// The stripe as it was before cells were lost, in the answer's last field.
+pub fn back<'a>(case: &Case, filled: &'a Filled, answer: &Answer, after: &'a Lent) -> Back<'a> {
+    case.sent.filter(|sent| sent.is_plain(case.call.shape))?;
+    let answer = after.spare.get(..answer.length as usize)?;
+    Some([&filled.whole, &answer[7..]])
+}
+
 impl Cases<'_> {
     pub fn jobs(&mut self) {
         self.every_kind();
@@ -36,12 +56,14 @@ impl Cases<'_> {
 
     /// Of a call of any numbers.
     fn push_job(&mut self, shape: Shape, length: u64, fill: Fill, lost: Lost, sent: Sent) {
-        let mut case = Case { lost, sent, ..self.case(Call::new(Job, shape, length), fill) };
+        // The job and its answer are made later; most are longer than nothing.
+        let call = Call { bytes_length: 1, spare_length: 1, ..Call::new(JOB, shape, length) };
+        let mut case = Case { lost, sent: Some(sent), ..self.case(call, fill) };
         if sent.change == Change::Cut(0) && self.random.below(2) == 0 {
-            case.bytes.place = Place::Null;
+            case.loans[BYTES].place = Place::Null;
         }
         if sent.room == Room::Of(0) && self.random.below(2) == 0 {
-            case.spare.place = Place::Null;
+            case.loans[SPARE].place = Place::Null;
         }
         self.list.push(case);
     }

@@ -1,8 +1,12 @@
 //! Which small writes are compared.
 
-use crate::cases::{any_p, codes, edge_shapes, Case, Cases, New};
-use crate::fills::Fill;
-use crate::second::{Call, Operation::Write, Position, Shape};
+use crate::cases::case::{Case, Cases, New};
+use crate::cases::fills::Fill;
+use crate::cases::loans::{BYTES, STRIPE};
+use crate::cases::shapes::{any_p, codes, edge_shapes};
+use crate::second::call::{Call, Shape};
+use crate::second::layout::Position;
+use crate::second::write::WRITE;
 
 const SMALL_CELLS: [u64; 12] = [1, 2, 3, 7, 31, 64, 127, 128, 129, 255, 256, 257];
 const LARGE_CELLS: [u64; 3] = [512, 1000, 4096];
@@ -27,7 +31,7 @@ impl Cases<'_> {
     fn write(&self, shape: Shape, (row, column): Position) -> Call {
         let length = self.second.length(shape).expect("a good shape");
         let (row, column) = (row as u64, column as u64);
-        Call { row, column, bytes_length: shape.cell, ..Call::new(Write, shape, length) }
+        Call { row, column, bytes_length: shape.cell, ..Call::new(WRITE, shape, length) }
     }
 
     /// A random position of data or of parity.
@@ -84,7 +88,7 @@ impl Cases<'_> {
             for bytes in self.places() {
                 self.random_data(shape);
                 let case = self.list.last_mut().expect("a write");
-                (case.stripe.place, case.bytes.place) = (stripe, bytes);
+                (case.loans[STRIPE].place, case.loans[BYTES].place) = (stripe, bytes);
             }
         }
     }
@@ -115,7 +119,7 @@ impl Cases<'_> {
             for row in rows {
                 for column in columns {
                     for bytes_length in [0, cell, cell + 1, u64::MAX] {
-                        let call = Call { row, column, bytes_length, ..Call::new(Write, shape, length) };
+                        let call = Call { row, column, bytes_length, ..Call::new(WRITE, shape, length) };
                         self.push_write(call, Fill::Random, New::Random);
                     }
                 }
@@ -165,7 +169,7 @@ impl Cases<'_> {
 
     fn write_any_p(&mut self) {
         for (shape, length) in any_p() {
-            let call = Call { bytes_length: 1, ..Call::new(Write, shape, length) };
+            let call = Call { bytes_length: 1, ..Call::new(WRITE, shape, length) };
             self.push_write(call, Fill::Random, New::Random);
         }
     }

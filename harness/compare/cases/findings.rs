@@ -1,9 +1,21 @@
 //! Which searches for a bad column are compared.
 
-use crate::cases::{codes, Cases};
-use crate::fills::{Extent, Fill, EXTENTS, FILLS};
-use crate::rebuilds::{LARGE_CELLS, SMALL_CELLS};
-use crate::second::{Operation::BadColumn, Shape};
+use crate::cases::case::{Case, Cases};
+use crate::cases::fills::{Extent, Fill, EXTENTS, FILLS};
+use crate::cases::shapes::{codes, LARGE_CELLS, SMALL_CELLS};
+use crate::second::call::{Answer, Shape, CLEAN, COLUMN};
+use crate::second::layout::Layout;
+use crate::second::rebuild::BAD_COLUMN;
+
+/// What was made so that one column explains it.
+pub fn known(case: &Case, layout: &Layout) -> Option<Answer> {
+    match case.fill {
+        Fill::Encoded => Some(Answer::found(CLEAN, 0)),
+        Fill::CellAltered(n) => Some(Answer::found(COLUMN, (n / layout.rows) as u64)),
+        Fill::ColumnAltered(c, _) => Some(Answer::found(COLUMN, c as u64)),
+        _ => None,
+    }
+}
 
 impl Cases<'_> {
     pub fn findings(&mut self) {
@@ -14,7 +26,7 @@ impl Cases<'_> {
     }
 
     fn find(&mut self, shape: Shape, fill: Fill) {
-        let case = self.case(self.good_call(BadColumn, shape), fill);
+        let case = self.case(self.good_call(BAD_COLUMN, shape), fill);
         self.list.push(case);
     }
 

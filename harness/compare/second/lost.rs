@@ -1,7 +1,7 @@
 //! The second program's rebuild, by the school's method: the equations as the rows
 //! of a matrix over the lost cells, with the sum of the survivors at the right.
 
-use crate::second::Layout;
+use crate::second::layout::{Equation, Layout};
 
 /// Demand 3's three outcomes: each lost cell with the bytes that it must hold; or
 /// more than one encoded stripe has these survivors, or could have; or none has.
@@ -37,7 +37,7 @@ impl Layout {
         for (k, &n) in lost.iter().enumerate() {
             among_lost[n] = Some(k);
         }
-        let row = |equation: &crate::second::Equation| {
+        let row = |equation: &Equation| {
             let mut row = vec![0; lost.len() + cell];
             for &position in equation.sources.iter().chain([&equation.parity]) {
                 let n = self.number(position);

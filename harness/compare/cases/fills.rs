@@ -1,7 +1,7 @@
 //! What the stripe holds before a call.
 
 use crate::random::Random;
-use crate::second::Layout;
+use crate::second::layout::Layout;
 
 /// A wholly random stripe has junk in its parity cells too.
 #[derive(Clone, Copy, PartialEq, Debug)]

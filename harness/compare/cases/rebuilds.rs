@@ -1,14 +1,31 @@
 //! Which rebuilds are compared.
 
-use crate::bridge::Place;
-use crate::cases::{any_p, codes, edge_shapes, Case, Cases};
-use crate::fills::{Fill, FILLS};
-use crate::lists::{Base, Form, Found, Lost, Odd, FORMS};
-use crate::second::{Call, Operation, Shape};
-use Operation::{BadColumn, RebuildCells, RebuildColumns};
+use crate::cases::case::{Back, Case, Cases, Filled};
+use crate::cases::fills::{Fill, FILLS};
+use crate::cases::lists::{Base, Form, Found, Lost, Odd, FORMS};
+use crate::cases::loans::{LOST, STRIPE};
+use crate::cases::shapes::{any_p, codes, edge_shapes, outside, LARGE_CELLS, SMALL_CELLS};
+use crate::second::call::{Answer, Call, Lent, Shape};
+use crate::second::layout::Layout;
+use crate::second::rebuild::{BAD_COLUMN, REBUILD_CELLS, REBUILD_COLUMNS};
 
-pub const SMALL_CELLS: [u64; 6] = [1, 2, 3, 7, 31, 64];
-pub const LARGE_CELLS: [u64; 4] = [512, 513, 1000, 4096];
+pub fn known_cells(case: &Case, layout: &Layout) -> Option<Answer> {
+    match case.lost.determined(layout)? {
+        false => Some(Answer::refused(11)),
+        true => (case.fill == Fill::Encoded).then_some(Answer::refused(0)),
+    }
+}
+
+/// Two columns have as many cells as there are equations: any bytes fit.
+pub fn known_columns(case: &Case, _: &Layout) -> Option<Answer> {
+    let [a, b] = case.call.columns;
+    (a != b || case.fill == Fill::Encoded).then_some(Answer::refused(0))
+}
+
+/// The stripe as it was before cells were lost.
+pub fn back<'a>(_: &Case, filled: &'a Filled, _: &Answer, after: &'a Lent) -> Back<'a> {
+    Some([&filled.whole, &after.stripe])
+}
 
 impl Cases<'_> {
     pub fn rebuilds(&mut self) {
@@ -23,25 +40,13 @@ impl Cases<'_> {
         self.rebuild_any_p();
     }
 
-    /// A call with a stripe of the right length.
-    pub fn good_call(&self, operation: Operation, shape: Shape) -> Call {
-        Call::new(operation, shape, self.second.length(shape).expect("a good shape"))
-    }
-
-    /// A cell size for loops over many cells or columns: large ones for small p only.
-    pub fn some_cell(&mut self, p: u64) -> u64 {
-        match self.random.below(4) {
-            0 if p <= 7 => self.random.one_of(&[512, 513, 1000]),
-            1 => self.random.one_of(&SMALL_CELLS),
-            _ => self.random.one_of(&[1, 2, 3, 7]),
-        }
-    }
-
     fn push_lost(&mut self, call: Call, fill: Fill, lost: Lost) {
         let empty = lost.base == Base::Empty && lost.more == 0 && lost.odd == Odd::Nothing;
         let mut case = Case { lost, ..self.case(call, fill) };
-        case.list.place = if call.operation == RebuildCells { self.list_place(empty) } else { Place::Null };
-        case.stripe.sealed = self.random.below(2) == 0;
+        if case.row.lends.contains(&LOST) {
+            case.loans[LOST].place = self.list_place(empty);
+        }
+        case.loans[STRIPE].sealed = self.random.below(2) == 0;
         self.list.push(case);
     }
 
@@ -64,15 +69,15 @@ impl Cases<'_> {
 
     fn lost_cells(&mut self, shape: Shape, fill: Fill, base: Base, less: usize, more: usize) {
         let lost = self.some_lost(base, less, more);
-        self.push_lost(self.good_call(RebuildCells, shape), fill, lost);
+        self.push_lost(self.good_call(REBUILD_CELLS, shape), fill, lost);
     }
 
     /// The columns in either order.
     fn lost_columns(&mut self, shape: Shape, fill: Fill, a: usize, b: usize) {
         let mut columns = [a as u64, b as u64];
         self.random.shuffle(&mut columns);
-        let lost = self.some_lost(Base::Empty, 0, 0);
-        self.push_lost(Call { columns, ..self.good_call(RebuildColumns, shape) }, fill, lost);
+        let lost = self.some_lost(Base::Told, 0, 0);
+        self.push_lost(Call { columns, ..self.good_call(REBUILD_COLUMNS, shape) }, fill, lost);
     }
 
     /// Each cell of each code and prime in turn is the only one lost: of an encoded
@@ -165,7 +170,7 @@ impl Cases<'_> {
                 let start = self.list.len();
                 self.some_rebuilds(shape, fill);
                 if places > 1 {
-                    self.list[start..].iter_mut().for_each(|case| case.stripe.place = place);
+                    self.list[start..].iter_mut().for_each(|case| case.loans[STRIPE].place = place);
                 }
             }
         }
@@ -195,7 +200,7 @@ impl Cases<'_> {
                 let lost = Lost { form: Form::Huge, ..self.some_lost(base, 0, more) };
                 for odd in [Odd::Nothing, Odd::Number(p * p)] {
                     let lost = Lost { odd, ..lost };
-                    self.push_lost(self.good_call(RebuildCells, shape), Fill::Encoded, lost);
+                    self.push_lost(self.good_call(REBUILD_CELLS, shape), Fill::Encoded, lost);
                 }
             }
         }
@@ -211,12 +216,12 @@ impl Cases<'_> {
             for outside in outside(n as u64, cells as u64) {
                 for (base, more) in [(Base::Empty, 0), (Base::Cell(n), 0), (Base::Columns(0, column), 1)] {
                     let lost = Lost { odd: Odd::Number(outside), ..self.some_lost(base, 0, more) };
-                    self.push_lost(self.good_call(RebuildCells, shape), Fill::Encoded, lost);
+                    self.push_lost(self.good_call(REBUILD_CELLS, shape), Fill::Encoded, lost);
                 }
             }
             for outside in outside(column as u64, columns as u64) {
                 for columns in [[outside, column as u64], [column as u64, outside], [outside; 2]] {
-                    let call = Call { columns, ..self.good_call(RebuildColumns, shape) };
+                    let call = Call { columns, ..self.good_call(REBUILD_COLUMNS, shape) };
                     self.push_lost(call, Fill::Encoded, Lost::NONE);
                 }
             }
@@ -236,14 +241,14 @@ impl Cases<'_> {
         let (cells, columns) = (layout.cells() as u64, layout.columns as u64);
         let right = cells * if shape.cell == 4097 { 4097 } else { good.cell };
         for length in [0, right - 1, right, right + 1, u64::MAX] {
-            self.bad_lists(Call::new(RebuildCells, shape, length), cells);
+            self.bad_lists(Call::new(REBUILD_CELLS, shape, length), cells);
             for a in [0, columns - 1, columns, u64::MAX] {
                 for b in [0, columns - 1, columns, u64::MAX] {
-                    let call = Call { columns: [a, b], ..Call::new(RebuildColumns, shape, length) };
+                    let call = Call { columns: [a, b], ..Call::new(REBUILD_COLUMNS, shape, length) };
                     self.push_lost(call, Fill::Random, Lost::NONE);
                 }
             }
-            self.push_lost(Call::new(BadColumn, shape, length), Fill::Random, Lost::NONE);
+            self.push_lost(Call::new(BAD_COLUMN, shape, length), Fill::Random, Lost::NONE);
         }
     }
 
@@ -255,14 +260,14 @@ impl Cases<'_> {
             self.push_lost(call, Fill::Random, Lost { odd, ..none });
             self.push_lost(call, Fill::Random, Lost { odd, ..some });
         }
-        if self.second.refusal(&call, &[]) != 0 {
+        if self.is_refused(&call) {
             self.push_lost(call, Fill::Random, Lost { odd: Odd::Absent, ..some });
         }
     }
 
     fn rebuild_any_p(&mut self) {
         for (shape, length) in any_p() {
-            for operation in [RebuildCells, RebuildColumns, BadColumn] {
+            for operation in [REBUILD_CELLS, REBUILD_COLUMNS, BAD_COLUMN] {
                 let call = Call { columns: [0, 1], ..Call::new(operation, shape, length) };
                 self.push_lost(call, Fill::Random, Lost { base: Base::Cell(0), ..Lost::NONE });
             }
@@ -294,11 +299,4 @@ impl Cases<'_> {
             }
         }
     }
-}
-
-/// Numbers past the end, most of them made of a good one. A good one and 256 may still
-/// be inside.
-pub fn outside(good: u64, end: u64) -> Vec<u64> {
-    let far = [8, 16, 32, 52, 55, 58, 60, 61, 62, 63].map(|bits| good + (1 << bits));
-    [end, end + 1, u64::MAX - 1, u64::MAX].into_iter().chain(far).collect()
 }

@@ -1,7 +1,26 @@
 //! The scope document's stripes to try, with the answers that it gives.
 
-use crate::second::{Answer, Call, Operation, Shape, CLEAN, COLUMN, UNEXPLAINED};
-use Operation::{BadColumn, Broken, Encode, Job, Plan, RebuildCells, RebuildColumns, Run, Write};
+use crate::cases::case::Cases;
+use crate::cases::fields::Sent;
+use crate::cases::fills::Fill;
+use crate::cases::loans::LOST;
+use crate::second::call::{Answer, Call, Operation, Shape, CLEAN, COLUMN, UNEXPLAINED};
+use crate::second::encode::{BROKEN, ENCODE};
+use crate::second::job::JOB;
+use crate::second::rebuild::{BAD_COLUMN, REBUILD_CELLS, REBUILD_COLUMNS};
+use crate::second::spare::{PLAN, RUN};
+use crate::second::write::WRITE;
+
+impl Cases<'_> {
+    pub fn written(&mut self) {
+        for (n, written) in WRITTEN.iter().enumerate() {
+            let mut case = self.case(written.call, Fill::Written(n));
+            case.loans[LOST].place = self.list_place(written.lost.is_empty());
+            case.sent = (written.call.operation == JOB).then_some(Sent::PLAIN);
+            self.list.push(case);
+        }
+    }
+}
 
 pub struct Written {
     pub call: Call,
@@ -24,12 +43,12 @@ const P4: [u8; 8] = [0x05, 0x04, 0x02, 0x08, 0x07, 0x0C, 0x09, 0x06];
 const P5: [u8; 8] = [0x01, 0x00, 0x02, 0x08, 0x03, 0x08, 0x09, 0x02];
 const P9: [u8; 8] = [0x00, 0x04, 0x03, 0x08, 0x03, 0x0C, 0x0D, 0x06];
 const P10: [u8; 8] = [0x00, 0x04, 0x02, 0x0A, 0x03, 0x0C, 0x0D, 0x06];
-const JOB: [u8; 8] = [0xEE, 0xEE, 0x02, 0x08, 0x03, 0x0C, 0x0D, 0x06];
-const JOB_BYTES: [u8; 31] = [
+const JOB_STRIPE: [u8; 8] = [0xEE, 0xEE, 0x02, 0x08, 0x03, 0x0C, 0x0D, 0x06];
+pub const JOB_BYTES: [u8; 31] = [
     0x01, 0x00, 0x01, 0x01, 0x02, 0x00, 0x01, 0x03, 0x03, 0x00, 0x02, 0x00, 0x01, 0x04, 0x00, 0x04, 0x00,
     0x00, 0x00, 0x01, 0x05, 0x00, 0x08, 0xEE, 0xEE, 0x02, 0x08, 0x03, 0x0C, 0x0D, 0x06,
 ];
-const JOB_ANSWER: [u8; 15] =
+pub const JOB_ANSWER: [u8; 15] =
     [0x06, 0x00, 0x01, 0x00, 0x05, 0x00, 0x08, 0x01, 0x04, 0x02, 0x08, 0x03, 0x0C, 0x0D, 0x06];
 
 /// An encoded stripe of RDP for p = 5, and what P6 and P7 lose of it: (1,1), (1,4),
@@ -85,9 +104,9 @@ pub static WRITTEN: &[Written] = &[
     lost_of(2, 3, &P2, &[0, 1, 2, 3, 4, 5, 6, 7], 11, &P2),
     lost_of(3, 3, &P3, &[0, 1, 2, 3, 4, 5, 6, 7, 8], 11, &P3),
     // The job's stripe and lost cells; column 0 is the same; the empty list.
-    lost_of(1, 3, &JOB, &[0, 1], 0, &P1),
-    columns_of(&JOB, [0, 0], 0, &P1),
-    columns_of(&JOB, [3, 0], 0, &P1),
+    lost_of(1, 3, &JOB_STRIPE, &[0, 1], 0, &P1),
+    columns_of(&JOB_STRIPE, [0, 0], 0, &P1),
+    columns_of(&JOB_STRIPE, [3, 0], 0, &P1),
     lost_of(1, 3, &P1, &[], 0, &P1),
     lost_of(1, 3, &P10, &[], 12, &P10),
     // P8, and what its plans and refused plans do; column 0 has no row that is forced.
@@ -101,35 +120,35 @@ pub static WRITTEN: &[Written] = &[
     refused_plan(1, 16),
     refused_plan(5, 7),
     JOB_EXAMPLE,
-    refused(Encode, 9, 1, 2),
-    refused(Encode, 2, 1, 2),
-    refused(Encode, 33, 1, 2),
-    refused(Encode, 3, 0, 4),
-    refused(Encode, 3, 4097, 4),
-    refused(Broken, 9, 1, 2),
-    refused(Broken, 3, 4097, 4),
-    refused(Write, 33, 1, 2),
-    refused(Write, 3, 0, 4),
-    refused(RebuildCells, 9, 1, 2),
-    refused(RebuildCells, 2, 1, 2),
-    refused(RebuildCells, 33, 1, 2),
-    refused(RebuildCells, 3, 0, 4),
-    refused(RebuildCells, 3, 4097, 4),
-    refused(RebuildColumns, 9, 1, 2),
-    refused(RebuildColumns, 2, 1, 2),
-    refused(RebuildColumns, 33, 1, 2),
-    refused(RebuildColumns, 3, 0, 4),
-    refused(RebuildColumns, 3, 4097, 4),
-    refused(BadColumn, 9, 1, 2),
-    refused(BadColumn, 2, 1, 2),
-    refused(BadColumn, 33, 1, 2),
-    refused(BadColumn, 3, 0, 4),
-    refused(BadColumn, 3, 4097, 4),
-    refused(Run, 9, 1, 2),
-    refused(Run, 2, 1, 2),
-    refused(Run, 33, 1, 2),
-    refused(Run, 3, 0, 4),
-    refused(Run, 3, 4097, 4),
+    refused(ENCODE, 9, 1, 2),
+    refused(ENCODE, 2, 1, 2),
+    refused(ENCODE, 33, 1, 2),
+    refused(ENCODE, 3, 0, 4),
+    refused(ENCODE, 3, 4097, 4),
+    refused(BROKEN, 9, 1, 2),
+    refused(BROKEN, 3, 4097, 4),
+    refused(WRITE, 33, 1, 2),
+    refused(WRITE, 3, 0, 4),
+    refused(REBUILD_CELLS, 9, 1, 2),
+    refused(REBUILD_CELLS, 2, 1, 2),
+    refused(REBUILD_CELLS, 33, 1, 2),
+    refused(REBUILD_CELLS, 3, 0, 4),
+    refused(REBUILD_CELLS, 3, 4097, 4),
+    refused(REBUILD_COLUMNS, 9, 1, 2),
+    refused(REBUILD_COLUMNS, 2, 1, 2),
+    refused(REBUILD_COLUMNS, 33, 1, 2),
+    refused(REBUILD_COLUMNS, 3, 0, 4),
+    refused(REBUILD_COLUMNS, 3, 4097, 4),
+    refused(BAD_COLUMN, 9, 1, 2),
+    refused(BAD_COLUMN, 2, 1, 2),
+    refused(BAD_COLUMN, 33, 1, 2),
+    refused(BAD_COLUMN, 3, 0, 4),
+    refused(BAD_COLUMN, 3, 4097, 4),
+    refused(RUN, 9, 1, 2),
+    refused(RUN, 2, 1, 2),
+    refused(RUN, 33, 1, 2),
+    refused(RUN, 3, 0, 4),
+    refused(RUN, 3, 4097, 4),
 ];
 
 /// A call with cells of one byte that leaves the stripe as it is.
@@ -148,15 +167,15 @@ const fn still(operation: Operation, code: u64, p: u64, stripe: &'static [u8], a
 }
 
 const fn encoded(code: u64, before: &'static [u8], after: &'static [u8]) -> Written {
-    Written { after, ..still(Encode, code, 3, before, Answer::refused(0)) }
+    Written { after, ..still(ENCODE, code, 3, before, Answer::refused(0)) }
 }
 
 const fn counted(code: u64, stripe: &'static [u8], count: u64) -> Written {
-    still(Broken, code, 3, stripe, Answer::counted(count))
+    still(BROKEN, code, 3, stripe, Answer::counted(count))
 }
 
 const fn found(code: u64, stripe: &'static [u8], finding: u64, column: u64) -> Written {
-    still(BadColumn, code, 3, stripe, Answer::found(finding, column))
+    still(BAD_COLUMN, code, 3, stripe, Answer::found(finding, column))
 }
 
 const fn refused(operation: Operation, p: u64, cell: u64, refusal: u64) -> Written {
@@ -171,7 +190,7 @@ const fn changed(
     after: &'static [u8],
     count: u64,
 ) -> Written {
-    let written = still(Write, 1, 3, &P1, Answer::counted(count));
+    let written = still(WRITE, 1, 3, &P1, Answer::counted(count));
     let call = Call { row, column, bytes_length: bytes.len() as u64, ..written.call };
     Written { call, bytes, after, ..written }
 }
@@ -184,24 +203,24 @@ const fn lost_of(
     refusal: u64,
     after: &'static [u8],
 ) -> Written {
-    Written { lost, after, ..still(RebuildCells, code, p, before, Answer::refused(refusal)) }
+    Written { lost, after, ..still(REBUILD_CELLS, code, p, before, Answer::refused(refusal)) }
 }
 
 /// A rebuild of columns of RDP for p = 3.
 const fn columns_of(before: &'static [u8], columns: [u64; 2], refusal: u64, after: &'static [u8]) -> Written {
-    let written = still(RebuildColumns, 1, 3, before, Answer::refused(refusal));
+    let written = still(REBUILD_COLUMNS, 1, 3, before, Answer::refused(refusal));
     Written { call: Call { columns, ..written.call }, after, ..written }
 }
 
 /// A plan for column k of RDP for p = 5.
 const fn planned(k: u64, rows: u64, reads: u64) -> Written {
-    let written = still(Plan, 1, 5, &[], Answer::planned(rows, reads));
+    let written = still(PLAN, 1, 5, &[], Answer::planned(rows, reads));
     Written { call: Call { k, ..written.call }, ..written }
 }
 
 /// A run from row 0 for column k of RDP for p = 5.
 const fn ran(k: u64, plan: u64, budget: u64, answer: Answer, spare_after: &'static [u8]) -> Written {
-    let written = still(Run, 1, 5, &RDP_5, answer);
+    let written = still(RUN, 1, 5, &RDP_5, answer);
     let call = Call { k, plan, budget, spare_length: SPARE.len() as u64, ..written.call };
     Written { call, spare: &SPARE, spare_after, ..written }
 }
@@ -214,9 +233,10 @@ const fn refused_plan(k: u64, plan: u64) -> Written {
     ran(k, plan, 4, Answer::refused(9), &SPARE)
 }
 
-const JOB_EXAMPLE: Written = Written {
-    bytes: &JOB_BYTES,
-    spare: &[0xEE; JOB_ANSWER.len()],
-    spare_after: &JOB_ANSWER,
-    ..still(Job, 1, 3, &[], Answer::answered(0, JOB_ANSWER.len() as u64))
+/// Its job, and the room for its answer.
+const JOB_EXAMPLE: Written = {
+    let written = still(JOB, 1, 3, &[], Answer::answered(0, JOB_ANSWER.len() as u64));
+    let [bytes_length, spare_length] = [JOB_BYTES.len() as u64, JOB_ANSWER.len() as u64];
+    let call = Call { bytes_length, spare_length, ..written.call };
+    Written { call, bytes: &JOB_BYTES, spare: &[0xEE; JOB_ANSWER.len()], spare_after: &JOB_ANSWER, ..written }
 };

@@ -1,10 +1,11 @@
 //! Which cells are lost, how the list names them, and what is found in them.
 
 use crate::random::Random;
-use crate::second::Layout;
+use crate::second::call::Call;
+use crate::second::layout::Layout;
 
 /// The lost cells: those of a base, less some of them, and some others more.
-#[derive(Clone, Copy, Debug)]
+#[derive(Clone, Copy, PartialEq, Debug)]
 pub struct Lost {
     pub base: Base,
     pub less: usize,
@@ -14,13 +15,15 @@ pub struct Lost {
     pub odd: Odd,
 }
 
-/// `Determined` is a largest set that is determined, taken at random. `Unread` is all
-/// that a plan for a lost column doesn't read, that column among it.
+/// `Told` is the columns that the call is told. `Determined` is a largest set that is
+/// determined, taken at random. `Unread` is all that a plan for a lost column doesn't read,
+/// that column among it.
 #[derive(Clone, Copy, PartialEq, Debug)]
 pub enum Base {
     Empty,
     Cell(usize),
     Columns(usize, usize),
+    Told,
     Determined,
     Unread(usize, u64),
 }
@@ -69,8 +72,9 @@ impl Lost {
     };
 
     /// The lost cells, each once.
-    pub fn cells(&self, layout: &Layout, random: &mut Random) -> Vec<usize> {
+    pub fn cells(&self, call: &Call, layout: &Layout, random: &mut Random) -> Vec<usize> {
         let mut cells = match self.base {
+            Base::Told => return layout.in_columns(call.columns[0] as usize, call.columns[1] as usize),
             Base::Empty => Vec::new(),
             Base::Cell(n) => vec![n],
             Base::Columns(a, b) => layout.in_columns(a, b),
@@ -97,7 +101,7 @@ impl Lost {
             Base::Cell(_) => self.more <= 1,
             Base::Columns(a, b) => self.more <= (a == b) as usize,
             Base::Determined => self.more == 0,
-            Base::Unread(..) => false,
+            Base::Told | Base::Unread(..) => false,
         };
         let largest = match self.base {
             Base::Columns(a, b) => a != b,
