@@ -35,21 +35,13 @@ same-length : tie.Need-same-length
 same-length c = ⊎-elim (λ way. ap (λ (l : List ℕ). length l) (way .7) ∙ way .3 .ensures .long) (λ way. ap (λ (l : List ℕ). length l) (way .1)) (c .before .if1 .came)
 
 returns : tie.Need-returns
-returns c =
-    let start = c .before .before .before .before .before .before .before in
-    let agree = c .before .before .before .survivors-agree in
-    mends-done (start .args .shape) _ _ _ _ _ (start .args .stripe .now) (agree .result) (c .before .if1 .stripe) (passes-whole _ _ _ _ _ (agree .ensures .0))
-    (⊎-elim (λ way. inl (way .0 .taken, subst (Filled _ _ _ _ 0 _ _) (sym (way .7)) (way .3 .ensures))) (λ way. inr (way .0 .left, way .1)) (c .before .if1 .came)) (c .if2 .taken)
+returns c = mends-done (c .before .before .before .before .before .before .before .args .shape) _ _ _ _ _ (c .before .before .before .before .before .before .before .args .stripe .now) (c .before .before .before .survivors-agree .result) (c .before .if1 .stripe) (passes-whole _ _ _ _ _ (c .before .before .before .survivors-agree .ensures .0)) (⊎-elim (λ way. inl (way .0 .taken, subst (Filled _ _ _ _ 0 _ _) (sym (way .7)) (way .3 .ensures))) (λ way. inr (way .0 .left, way .1)) (c .before .if1 .came)) (c .if2 .taken)
 
 same-length-2 : tie.Need-same-length-2
 same-length-2 c = ⊎-elim (λ way. ap (λ (l : List ℕ). length l) (way .7) ∙ way .3 .ensures .long) (λ way. ap (λ (l : List ℕ). length l) (way .1)) (c .before .if1 .came)
 
 returns-2 : tie.Need-returns-2
-returns-2 c =
-    let start = c .before .before .before .before .before .before .before in
-    let agree = c .before .before .before .survivors-agree in
-    mends-not (start .args .shape) _ _ _ _ _ (start .args .stripe .now) (agree .result) (c .before .if1 .stripe) (passes-whole _ _ _ _ _ (agree .ensures .0))
-    (⊎-elim (λ way. inl (way .0 .taken, subst (Filled _ _ _ _ 0 _ _) (sym (way .7)) (way .3 .ensures))) (λ way. inr (way .0 .left, way .1)) (c .before .if1 .came)) (c .if2 .left)
+returns-2 c = mends-not (c .before .before .before .before .before .before .before .args .shape) _ _ _ _ _ (c .before .before .before .before .before .before .before .args .stripe .now) (c .before .before .before .survivors-agree .result) (c .before .if1 .stripe) (passes-whole _ _ _ _ _ (c .before .before .before .survivors-agree .ensures .0)) (⊎-elim (λ way. inl (way .0 .taken, subst (Filled _ _ _ _ 0 _ _) (sym (way .7)) (way .3 .ensures))) (λ way. inr (way .0 .left, way .1)) (c .before .if1 .came)) (c .if2 .left)
 
 pub mend-spec : {M : Type 1} → statement M
 mend-spec =
