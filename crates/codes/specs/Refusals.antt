@@ -6,7 +6,7 @@ use lib.Dec.{eqb, leb, ltb}
 use lib.ListN.{length, getD}
 use Rattle.xor.specs.Sets.{any}
 use Rattle.codes.specs.declared.Shape.{Shape}
-use Rattle.codes.specs.Shape.{listed, rows, columns, cells, stripeLength}
+use Rattle.codes.specs.Shape.{lastCode, listed, mostCell, rows, columns, cells, stripeLength}
 use Rattle.codes.specs.Geometry.{cellAt}
 use Rattle.codes.specs.Encoded.{isParity}
 
@@ -39,11 +39,11 @@ fault n applies = record { number = n; applies = applies }
 
 -- the refusals of a code and a prime
 abbrev pub codeFaults : Shape → List Fault
-codeFaults s = fault 1 (eqb (s .code) 0) ∷ fault 1 (ltb 3 (s .code)) ∷ fault 2 (not (listed (s .p))) ∷ []
+codeFaults s = fault 1 (eqb (s .code) 0) ∷ fault 1 (ltb lastCode (s .code)) ∷ fault 2 (not (listed (s .p))) ∷ []
 
 -- the refusals of a cell size
 abbrev pub sizeFaults : Shape → List Fault
-sizeFaults s = fault 4 (eqb (s .cell) 0) ∷ fault 4 (ltb 4096 (s .cell)) ∷ []
+sizeFaults s = fault 4 (eqb (s .cell) 0) ∷ fault 4 (ltb mostCell (s .cell)) ∷ []
 
 -- the refusals of every call that is told the shape of a stripe
 unfoldable pub shapeFaults : Shape → List Fault
