@@ -146,8 +146,8 @@ struct zijraduf_finding zijraduf_bad_column(struct zijraduf_shape shape, const u
  * the spare is one column, row i of it at i x cell. */
 
 /* A refusal number, or 0 and a plan: bit i of `rows` is 1 where row i is taken by
- * its diagonal, and 0 where by its row. `reads` is how many distinct cells a
- * rebuild by this plan reads. Both are 0 where the call is refused. */
+ * its diagonal, and 0 where by its row. `reads` is how many distinct cells the
+ * equations of these rows need. Both are 0 where the call is refused. */
 struct zijraduf_read_plan {
     uint64_t refusal;
     uint64_t rows;

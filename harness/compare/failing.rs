@@ -1,5 +1,6 @@
 //! Reads of standard input that fail. The program has to say so in one line on standard
-//! error, to answer nothing, and to end: it never takes a part for the whole.
+//! error, to answer nothing, and to end: it never takes a part for the whole. And a write
+//! of the answer that fails, which it has to say too.
 
 use crate::cases::written::{JOB_ANSWER, JOB_BYTES};
 use crate::program::Program;
@@ -51,15 +52,21 @@ pub fn run(program: &Program) -> Result<usize, String> {
     for n in 0..RACES {
         failed += program.raced(n % JOB_BYTES.len())? as usize;
     }
+    program.unwritten()?;
     Ok(failed)
 }
 
 fn told(error: io::Error) -> String {
-    format!("can't make an input: {error}")
+    format!("can't open what it reads or writes: {error}")
 }
 
 fn writable() -> io::Result<File> {
     File::options().write(true).open("/dev/null")
+}
+
+/// A device that takes no byte.
+fn full() -> io::Result<File> {
+    File::options().write(true).open("/dev/full")
 }
 
 /// A connection that was cut off: its reads give the part, then fail once, then give the
@@ -105,8 +112,16 @@ fn waiting_bytes(pipe: &PipeWriter) -> i32 {
 impl Program<'_> {
     /// Some read of that input fails.
     fn fails(&self, what: &str, input: Stdio) -> Result<(), String> {
-        let child = self.start(input, Stdio::piped())?;
-        has_failed(&ended(child)?).map_err(|found| format!("{what}: {found}"))
+        let child = self.start(input, Stdio::piped(), Stdio::piped())?;
+        has_failed(&ended(child)?, "standard input").map_err(|found| format!("{what}: {found}"))
+    }
+
+    /// The job comes whole, and its answer can't be written.
+    fn unwritten(&self) -> Result<(), String> {
+        let (input, writer) = nonblocking(&JOB_BYTES).map_err(told)?;
+        drop(writer);
+        let child = self.start(input, Stdio::from(full().map_err(told)?), Stdio::piped())?;
+        has_failed(&ended(child)?, "standard output").map_err(|found| format!("no room to write: {found}"))
     }
 
     /// The read after the first bytes of the job fails: the others come only when the
@@ -114,7 +129,7 @@ impl Program<'_> {
     fn drained(&self, cut: usize) -> Result<(), String> {
         let (part, rest) = JOB_BYTES.split_at(cut);
         let (input, mut writer) = nonblocking(part).map_err(told)?;
-        let mut child = self.start(input, Stdio::piped())?;
+        let mut child = self.start(input, Stdio::piped(), Stdio::piped())?;
         let started = Instant::now();
         while child.try_wait().is_ok_and(|status| status.is_none()) && started.elapsed() < PATIENCE {
             thread::sleep(Duration::from_micros(200));
@@ -122,7 +137,8 @@ impl Program<'_> {
         // There may be none to read it.
         let _ = writer.write_all(rest);
         drop(writer);
-        has_failed(&ended(child)?).map_err(|found| format!("{cut} bytes, then none yet: {found}"))
+        let told = |found| format!("{cut} bytes, then none yet: {found}");
+        has_failed(&ended(child)?, "standard input").map_err(told)
     }
 
     /// The other bytes of the job come one by one, each as soon as those before it are
@@ -131,7 +147,7 @@ impl Program<'_> {
     fn raced(&self, cut: usize) -> Result<bool, String> {
         let (part, rest) = JOB_BYTES.split_at(cut);
         let (input, mut writer) = nonblocking(part).map_err(told)?;
-        let child = self.start(input, Stdio::piped())?;
+        let child = self.start(input, Stdio::piped(), Stdio::piped())?;
         let over = AtomicBool::new(false);
         let output = thread::scope(|scope| {
             scope.spawn(|| {
@@ -150,7 +166,8 @@ impl Program<'_> {
         if output.stderr.is_empty() && output.stdout == JOB_ANSWER {
             return Ok(false);
         }
-        has_failed(&output).map_err(|found| format!("{cut} bytes, the others one by one: {found}"))?;
+        has_failed(&output, "standard input")
+            .map_err(|found| format!("{cut} bytes, the others one by one: {found}"))?;
         Ok(true)
     }
 }
@@ -160,9 +177,9 @@ fn ended(child: Child) -> Result<Output, String> {
 }
 
 /// 124 and more is how `timeout` tells of a program that had to be ended.
-fn has_failed(output: &Output) -> Result<(), String> {
+fn has_failed(output: &Output, file: &str) -> Result<(), String> {
     let errors = String::from_utf8_lossy(&output.stderr);
-    let one_line = errors.ends_with('\n') && errors.lines().count() == 1 && errors.contains("standard input");
+    let one_line = errors.ends_with('\n') && errors.lines().count() == 1 && errors.contains(file);
     let itself = output.status.code().is_some_and(|code| code < 124);
     if output.stdout.is_empty() && one_line && itself {
         return Ok(());

@@ -21,8 +21,9 @@ pub fn run(options: &Options, random: usize) -> Result<Tally, String> {
     let chosen = options.only.map_or_else(|| all.jobs(random), |n| vec![n]);
     let program = Program(&options.command);
     if options.only.is_none() {
-        let failed = failing::run(&program).map_err(|found| format!("A FAILING READ: {found}"))?;
-        println!("{failed} processes had a read that failed: each said so and answered nothing");
+        let failed = failing::run(&program).map_err(|found| format!("A READ OR WRITE THAT FAILS: {found}"))?;
+        println!("{failed} processes had a read that failed: each said so and answered nothing;");
+        println!("one could not write its answer, and said so");
     }
     let mut progress = Progress::new(chosen.len());
     let mut tally = Tally::default();

@@ -11,15 +11,15 @@ use std::time::Duration;
 pub struct Program<'a>(pub &'a [String]);
 
 impl Program<'_> {
-    pub fn start(&self, input: Stdio, errors: Stdio) -> Result<Child, String> {
+    pub fn start(&self, input: Stdio, output: Stdio, errors: Stdio) -> Result<Child, String> {
         let mut command = Command::new(&self.0[0]);
-        command.args(&self.0[1..]).stdin(input).stdout(Stdio::piped()).stderr(errors);
+        command.args(&self.0[1..]).stdin(input).stdout(output).stderr(errors);
         command.spawn().map_err(|error| format!("the program: {error}"))
     }
 
     /// Gives a job to a fresh process, and has it write that answer and end well.
     pub fn same_answer(&self, job: &[u8], expected: &[u8], random: &mut Random) -> Result<(), String> {
-        let mut child = self.start(Stdio::piped(), Stdio::inherit())?;
+        let mut child = self.start(Stdio::piped(), Stdio::piped(), Stdio::inherit())?;
         let mut input = child.stdin.take().expect("a pipe");
         let mut output = child.stdout.take().expect("a pipe");
         let parts = parts(job, random);

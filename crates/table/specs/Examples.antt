@@ -61,6 +61,10 @@ zeros = replicate 24 0
 abbrev pub damaged : List ℕ
 damaged = 0xEE ∷ replicate 15 0 ++ 0xEE ∷ replicate 4 0 ++ 0xEE ∷ replicate 2 0
 
+-- a list that names each cell three times: nine names of three cells, where there are eight equations
+abbrev pub thrice : List ℕ → List ℕ
+thrice cells = cells ++ cells ++ cells
+
 -- the table
 unfoldable pub table : List Example
 table =
@@ -72,6 +76,7 @@ table =
     ∷ record { number = 6; shape = five; claim = rebuildRefused (at 1 1 ∷ at 1 4 ∷ at 2 5 ∷ at 0 5 ∷ []) 11; stripe = zeros }
     ∷ record { number = 7; shape = five; claim = rebuildRefused (at 0 0 ∷ at 0 4 ∷ at 0 5 ∷ []) 11; stripe = zeros }
     ∷ record { number = 7; shape = five; claim = rebuilt (at 0 0 ∷ at 0 4 ∷ at 1 5 ∷ []) zeros; stripe = damaged }
+    ∷ record { number = 7; shape = five; claim = rebuilt (thrice (at 0 0 ∷ at 0 4 ∷ at 1 5 ∷ [])) zeros; stripe = damaged }
     ∷ record { number = 8; shape = five; claim = planned 1 3 12; stripe = zeros }
     ∷ record { number = 8; shape = five; claim = runRefused 1 8 9; stripe = zeros }
     ∷ record { number = 8; shape = five; claim = runRefused 1 16 9; stripe = zeros }
