@@ -74,10 +74,6 @@ by-code {A} s w x1 x2 x3 = each-code (λ n. s .code ≡ n → A) x1 x2 x3 (s .co
 pub hcode-left : (s : Shape) → WellFormed s → s .code ≢ 1 → s .code ≢ 3 → s .code ≡ 2
 hcode-left s w n1 n3 = omega (arith, w .codeLow, w .codeHigh)
 
--- what is neither X-Code nor H-Code is RDP
-pub rdp-left : (s : Shape) → WellFormed s → s .code ≢ 3 → s .code ≢ 2 → s .code ≡ 1
-rdp-left s w n3 n2 = omega (arith, w .codeLow, w .codeHigh)
-
 -- ---- rows, columns and equations, where the code is known
 
 module _ (s : Shape) where
@@ -126,9 +122,6 @@ module _ (s : Shape) where
 
   pub equations-other : WellFormed s → s .code ≢ 3 → 2 * (s .p - 1) ≡ equations s
   equations-other w n = extents-other w n .2
-
-  pub rows-third : s .code ≡ 3 → s .p ≡ rows s
-  rows-third e = rows-of (xcode (s .p)) (xcode-is e)
 
   pub columns-third : s .code ≡ 3 → s .p ≡ columns s
   columns-third e = columns-of (xcode (s .p)) (xcode-is e)

@@ -14,7 +14,7 @@ use borrow.Author.Tests.{eqb-true, eqb-false}
 use Rattle.xor.specs.Xor.{_⊕_, xors}
 use Rattle.xor.specs.Runs.{sumAt, changedBy, addedTo, Inside, Apart, Beside, Added, Put, Says, NonzeroAt}
 use Rattle.xor.proofs.Cases.{by-equal, by-less, clash}
-use Rattle.xor.proofs.Algebra.{⊕-is, zero-⊕, ⊕-zero, ⊕-comm, ⊕-assoc, ⊕-equal, equal-⊕, or-none-left, or-none-right}
+use Rattle.xor.proofs.Algebra.{⊕-is, zero-⊕, ⊕-zero, ⊕-comm, ⊕-assoc, or-none-left, or-none-right}
 use Rattle.xor.proofs.Sums.{xors-more, xors-none, xors-same}
 
 -- ---- a part of some bytes: n of them, from byte `at` on
@@ -268,12 +268,6 @@ gathered-says m n r f h same = record {
 -- the same fact in other words
 pub says-same : (A B : Type 0) (r : Bool) → (A → B) → (B → A) → Says A r → Says B r
 says-same A B r there back h = record { yes = λ e. there (h .yes e); no = λ e b. h .no e (back b) }
-
--- numbers whose XOR is 0 are equal, and the other way round
-pub says-equal : (n : ℕ) (f g sum : ℕ → ℕ) (r : Bool) → ((t : ℕ) → t < n → sum t ≡ f t ⊕ g t) → Says ((t : ℕ) → t < n → sum t ≡ 0) r → Says ((t : ℕ) → t < n → f t ≡ g t) r
-says-equal n f g sum r e =
-    says-same ((t : ℕ) → t < n → sum t ≡ 0) ((t : ℕ) → t < n → f t ≡ g t) r
-    (λ z t l. ⊕-equal (f t) (g t) (sym (e t l) ∙ z t l)) (λ z t l. e t l ∙ equal-⊕ (f t) (g t) (z t l))
 
 -- equal numbers are zero together
 pub says-zero : (n : ℕ) (f g : ℕ → ℕ) (r : Bool) → ((t : ℕ) → t < n → f t ≡ g t) → Says ((t : ℕ) → t < n → f t ≡ 0) r → Says ((t : ℕ) → t < n → g t ≡ 0) r
