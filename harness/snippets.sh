@@ -55,7 +55,7 @@ head -n "$(wc -l <"$BUILD/snippet.txt")" "$BUILD/printed" | diff "$BUILD/snippet
 echo "the example printed what README.md says"
 
 # Tables and blocks of code are as wide as they are.
-wide=$(cd "$ROOT" && LC_ALL=C.UTF-8 awk 'FNR == 1 { code = 0 } /^ *```/ { code = !code } !code && !/^\|/ && length > 100 { print FILENAME ": " FNR }' \
-    README.md docs/*.md docs/requests/*.md)
+wide=$(cd "$ROOT" && awk 'FNR == 1 { code = 0 } /^ *```/ { code = !code } !code && !/^\|/ { print FILENAME ":" FNR ":" $0 }' \
+    README.md docs/*.md docs/requests/*.md | LC_ALL=C.UTF-8 grep -E '^[^:]*:[0-9]*:.{101}' | cut -d : -f 1,2) || :
 [ -z "$wide" ] || { echo "wider than 100 characters: $wide" >&2; exit 1; }
 echo "no line of prose is wider than 100 characters"
