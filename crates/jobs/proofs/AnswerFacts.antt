@@ -12,7 +12,7 @@ use Rattle.decide.specs.Survivors.{Undetermined, Restores, named}
 use Rattle.rebuild.specs.Rebuild.{RebuildsCells}
 use Rattle.rebuild.proofs.Calls.{decided-long}
 use Rattle.rebuild.proofs.Facts.{cells-come-back}
-use Rattle.jobs.specs.Format.{mostStripe, noJobRefusal, Job, jobBytes, Fits, shapeOf, answerBytes}
+use Rattle.format.specs.Format.{mostStripe, noJobRefusal, Job, jobBytes, Fits, shapeOf, answerBytes}
 use Rattle.jobs.specs.Answer.{Answers, carried, noJob, AnswersInto}
 use Rattle.jobs.proofs.Storing.{length-done, length-refused}
 use Rattle.jobs.proofs.OneAnswer.{carried-this}

@@ -13,12 +13,12 @@ use Rattle.codes.specs.Refusals.{Fault, order, applies, firstOf, refusal, cells
 use Rattle.decide.specs.Survivors.{named}
 use Rattle.rebuild.proofs.Deciding.{done}
 use Rattle.rebuild.specs.Rebuild.{RebuildsCells}
-use Rattle.jobs.specs.declared.Fields.{Fields}
-use Rattle.jobs.specs.Format.{mostStripe, noJobRefusal, Job, jobBytes, Fits, shapeOf, answerBytes}
-use Rattle.jobs.specs.Reading.{Holds}
+use Rattle.format.specs.declared.Fields.{Fields}
+use Rattle.format.specs.Format.{mostStripe, noJobRefusal, Job, jobBytes, Fits, shapeOf, answerBytes}
+use Rattle.format.specs.Reading.{Holds}
 use Rattle.jobs.specs.Answer.{carried, noJob, PutInto, AnswersInto}
 use Rattle.jobs.specs.Carrying.{Lists, Stored}
-use Rattle.jobs.proofs.Bytes.{same-numbers}
+use Rattle.format.proofs.Bytes.{same-numbers}
 use Rattle.jobs.proofs.Storing.{stored-all}
 
 -- ---- what the rebuild works on

@@ -1,8 +1,4 @@
--- The laws that proofs about the bytes of a job are made of.
-pub mod Bytes
-pub mod OneJob
-pub mod Places
-pub mod Reading
+-- The laws of a job's answer: its lost cells listed, its fields stored.
 pub mod LostNumbers
 pub mod Storing
 pub mod Answering

@@ -6,7 +6,7 @@ use native.Mathlib.Numerals.{add-one}
 use native.Mathlib.Omega.{arith}
 use lib.ListN.{length, set, take, drop, length-set}
 use lib.Seq.{take-suc-set, take-add, drop-drop}
-use Rattle.jobs.specs.Format.{mostLost, twoBytes, numbers}
+use Rattle.format.specs.Format.{mostLost, twoBytes, numbers}
 use Rattle.jobs.specs.Carrying.{Lists}
 
 numbers-both : (xs ys : List ℕ) → numbers (xs ++ ys) ≡ numbers xs ++ numbers ys

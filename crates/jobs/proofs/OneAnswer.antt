@@ -6,9 +6,9 @@ use native.Mathlib.Omega.{arith}
 use lib.ListN.{length, drop}
 use Rattle.xor.proofs.Cases.{by-less}
 use Rattle.rebuild.proofs.OneAnswer.{cells-one}
-use Rattle.jobs.specs.Format.{Job, jobBytes, shapeOf, answerBytes}
+use Rattle.format.specs.Format.{Job, jobBytes, shapeOf, answerBytes}
 use Rattle.jobs.specs.Answer.{Carried, Answers, carried, noJob, AnswersInto}
-use Rattle.jobs.proofs.OneJob.{one-job}
+use Rattle.format.proofs.OneJob.{one-job}
 
 -- what is carried out is the job whose bytes are the input
 pub carried-this : (i j : Job) (input output : List ℕ) → jobBytes i ≡ input → jobBytes j ≡ input → Carried i output → Carried j output

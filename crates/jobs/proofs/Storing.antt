@@ -9,7 +9,7 @@ use lib.ListN.{length, getD, drop, length-append, length-drop, drop-of-length-le
 use lib.Seq.{getD-append-add, getD-drop, ext-getD}
 use Rattle.xor.proofs.Cases.{by-equal, by-less}
 use Rattle.xor.proofs.Runs.{put-over, put-same, put-end}
-use Rattle.jobs.specs.Format.{twoBytes, field, answerBytes}
+use Rattle.format.specs.Format.{twoBytes, field, answerBytes}
 use Rattle.jobs.specs.Answer.{PutInto}
 use Rattle.jobs.specs.Carrying.{Stored}
 

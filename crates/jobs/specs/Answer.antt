@@ -4,7 +4,7 @@ use mathlib.Core.List.{List, [], _++_}
 use Prim.Native.Nat.{ℕ, _≤_, _<_}
 use lib.ListN.{length, drop}
 use Rattle.rebuild.specs.Rebuild.{RebuildsCells}
-use Rattle.jobs.specs.Format.{noJobRefusal, Job, Fits, jobBytes, shapeOf, answerBytes}
+use Rattle.format.specs.Format.{noJobRefusal, Job, Fits, jobBytes, shapeOf, answerBytes}
 
 -- the output is the answer to job j: what the rebuild of its lost cells answers, and after 0 the stripe that it leaves
 pub record Carried (j : Job) (output : List ℕ) : Type 0 where

@@ -5,9 +5,9 @@ use Prim.Native.Nat.{ℕ, _*_}
 use lib.ListN.{length, getD, take, drop}
 use Rattle.xor.specs.Runs.{Put}
 use Rattle.rebuild.specs.Rebuild.{RebuildsCells}
-use Rattle.jobs.specs.declared.Fields.{Fields}
-use Rattle.jobs.specs.Format.{mostLost, Job, numbers, shapeOf}
-use Rattle.jobs.specs.Reading.{Holds}
+use Rattle.format.specs.declared.Fields.{Fields}
+use Rattle.format.specs.Format.{mostLost, Job, numbers, shapeOf}
+use Rattle.format.specs.Reading.{Holds}
 
 -- the first numbers of the list, as many as count says, are those in the input from `at` on
 pub record Lists (input : List ℕ) (at count : ℕ) (list : List ℕ) : Type 0 where

@@ -2,8 +2,8 @@
 use mathlib.Core.Path.{sym, subst}
 use Prim.Native.Nat.{_≤_}
 use native.Mathlib.Omega.{arith}
-use Rattle.jobs.specs.Format.{mostStripe, Job}
-use Rattle.jobs.specs.Reading.{Holds, Reads}
+use Rattle.format.specs.Format.{mostStripe, Job}
+use Rattle.format.specs.Reading.{Holds, Reads}
 use Rattle.jobs.proofs.Answering.{answers-none, space-enough, space-taken}
 use borrow.Author.Needs.{needs}
 use Rattle.jobs.proofs.answer.Statement.{statement}

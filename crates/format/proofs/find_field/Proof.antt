@@ -1,11 +1,11 @@
--- `jobs::find_field` meets its contract. The bytes there say which tag and length a field would have.
+-- `format::find_field` meets its contract. The bytes there say which tag and length a field would have.
 use mathlib.Core.Path.{sym, _∙_}
 use native.Mathlib.Omega.{arith}
-use Rattle.jobs.proofs.Bytes.{same-two}
-use Rattle.jobs.proofs.Places.{tag-there, length-there, field-there}
+use Rattle.format.proofs.Bytes.{same-two}
+use Rattle.format.proofs.Places.{tag-there, length-there, field-there}
 use borrow.Author.Needs.{needs}
-use Rattle.jobs.proofs.find_field.Statement.{statement}
-use Rattle.jobs.proofs.find_field.Tie as tie
+use Rattle.format.proofs.find_field.Statement.{statement}
+use Rattle.format.proofs.find_field.Tie as tie
 
 sub-left : tie.Need-sub-left
 sub-left c = search needs

@@ -1,11 +1,11 @@
--- `jobs::read_job` meets its contract. A job with these bytes has its numbers and its end where they were looked for.
+-- `format::read_job` meets its contract. A job with these bytes has its numbers and its end where they were looked for.
 use mathlib.Core.Path.{subst}
 use native.Mathlib.Omega.{arith}
-use Rattle.jobs.specs.Places.{Begins, FindsNumbers, Ends, FindsTail}
-use Rattle.jobs.proofs.Reading.{job-ends, holds}
+use Rattle.format.specs.Places.{Begins, FindsNumbers, Ends, FindsTail}
+use Rattle.format.proofs.Reading.{job-ends, holds}
 use borrow.Author.Needs.{needs}
-use Rattle.jobs.proofs.read_job.Statement.{statement}
-use Rattle.jobs.proofs.read_job.Tie as tie
+use Rattle.format.proofs.read_job.Statement.{statement}
+use Rattle.format.proofs.read_job.Tie as tie
 
 read-numbers-requires : tie.Need-read-numbers-requires
 read-numbers-requires c κs = search needs

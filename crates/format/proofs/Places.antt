@@ -8,9 +8,9 @@ use lib.ListN.{length, getD, take, drop, length-append, length-take, length-drop
 use lib.Seq.{drop-cons, drop-drop, take-at, drop-at}
 use Rattle.xor.proofs.Cases.{by-less}
 use Rattle.xor.proofs.Runs.{part-long, part-byte}
-use Rattle.jobs.specs.Format.{twoBytes, field}
-use Rattle.jobs.specs.Places.{FieldAt}
-use Rattle.jobs.proofs.Bytes.{two-bytes, same-two}
+use Rattle.format.specs.Format.{twoBytes, field}
+use Rattle.format.specs.Places.{FieldAt}
+use Rattle.format.proofs.Bytes.{two-bytes, same-two}
 
 -- the bytes from a place on are the byte there and those after it
 from : (input : List ℕ) (at : ℕ) → at < length input → drop at input ≡ getD input at 0 ∷ drop (at + 1) input

@@ -1,11 +1,11 @@
--- `jobs::read_numbers` meets its contract. Fields 01 and 02 have one byte, so field 03 or what follows starts at the ninth.
+-- `format::read_numbers` meets its contract. Fields 01 and 02 have one byte, so field 03 or what follows starts at the ninth.
 use native.Mathlib.Omega.{arith}
 use borrow.Author.Tests.{not-true, not-false}
-use Rattle.jobs.specs.Places.{FieldAt}
-use Rattle.jobs.proofs.Reading.{code-lies, p-lies, begins-given, begins-absent}
+use Rattle.format.specs.Places.{FieldAt}
+use Rattle.format.proofs.Reading.{code-lies, p-lies, begins-given, begins-absent}
 use borrow.Author.Needs.{needs}
-use Rattle.jobs.proofs.read_numbers.Statement.{statement}
-use Rattle.jobs.proofs.read_numbers.Tie as tie
+use Rattle.format.proofs.read_numbers.Statement.{statement}
+use Rattle.format.proofs.read_numbers.Tie as tie
 
 has-field-requires : tie.Need-has-field-requires
 has-field-requires c κs = search needs

@@ -1,14 +1,14 @@
--- `jobs::read_tail` meets its contract. Field 04 has one length, so field 05 and the end of the input have one place each.
+-- `format::read_tail` meets its contract. Field 04 has one length, so field 05 and the end of the input have one place each.
 use mathlib.Core.Path.{subst}
 use Prim.Native.Nat.{_+_, _*_, _≤_}
 use native.Mathlib.Omega.{arith}
-use Rattle.jobs.specs.Format.{mostLost, mostStripe}
-use Rattle.jobs.specs.Places.{FieldAt, FindsField}
-use Rattle.jobs.proofs.Places.{one-length}
-use Rattle.jobs.proofs.Reading.{no-lost, ends, same-lost, stripe-after}
+use Rattle.format.specs.Format.{mostLost, mostStripe}
+use Rattle.format.specs.Places.{FieldAt, FindsField}
+use Rattle.format.proofs.Places.{one-length}
+use Rattle.format.proofs.Reading.{no-lost, ends, same-lost, stripe-after}
 use borrow.Author.Needs.{needs}
-use Rattle.jobs.proofs.read_tail.Statement.{statement}
-use Rattle.jobs.proofs.read_tail.Tie as tie
+use Rattle.format.proofs.read_tail.Statement.{statement}
+use Rattle.format.proofs.read_tail.Tie as tie
 
 find-field-requires : tie.Need-find-field-requires
 find-field-requires c κs = search needs

@@ -1,14 +1,14 @@
--- `jobs::has_field` meets its contract. A field has one length.
+-- `format::has_field` meets its contract. A field has one length.
 use mathlib.Core.Path.{refl, subst}
 use Prim.Native.Nat.{ℕ}
 use native.Mathlib.Omega.{arith}
 use borrow.Author.Tests.{eqb-true, eqb-false}
 use Rattle.xor.proofs.Cases.{clash}
-use Rattle.jobs.specs.Places.{FieldAt, FindsField}
-use Rattle.jobs.proofs.Places.{one-length}
+use Rattle.format.specs.Places.{FieldAt, FindsField}
+use Rattle.format.proofs.Places.{one-length}
 use borrow.Author.Needs.{needs}
-use Rattle.jobs.proofs.has_field.Statement.{statement}
-use Rattle.jobs.proofs.has_field.Tie as tie
+use Rattle.format.proofs.has_field.Statement.{statement}
+use Rattle.format.proofs.has_field.Tie as tie
 
 find-field-requires : tie.Need-find-field-requires
 find-field-requires c κs = search needs

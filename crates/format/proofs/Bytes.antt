@@ -4,7 +4,7 @@ use mathlib.Core.List.{List, [], _∷_, _++_, head-eq-of-cons-eq, tail-eq-of-con
 use Prim.Native.Nat.{ℕ, suc, _+_, _*_, _/_, _%_, _<_}
 use native.Mathlib.Omega.{arith}
 use lib.ListN.{length, getD}
-use Rattle.jobs.specs.Format.{twoBytes, field, numbers}
+use Rattle.format.specs.Format.{twoBytes, field, numbers}
 
 -- two lists that begin with parts of one length have the same part and the same rest
 same-parts : (a b x y : List ℕ) → length a ≡ length b → a ++ x ≡ b ++ y → (a ≡ b) × (x ≡ y)

@@ -3,10 +3,10 @@ use mathlib.Core.Path.{_≡_}
 use mathlib.Core.List.{List}
 use Prim.Native.Nat.{ℕ, _+_, _*_, _≤_}
 use lib.ListN.{length, take, drop}
-use Rattle.jobs.specs.declared.Fields.{Fields}
-use Rattle.jobs.specs.declared.Found.{Found}
-use Rattle.jobs.specs.declared.Found.the-variants.{Lies, NoJob}
-use Rattle.jobs.specs.Format.{numbers, Job, jobBytes, Fits, shapeOf}
+use Rattle.format.specs.declared.Fields.{Fields}
+use Rattle.format.specs.declared.Found.{Found}
+use Rattle.format.specs.declared.Found.the-variants.{Lies, NoJob}
+use Rattle.format.specs.Format.{numbers, Job, jobBytes, Fits, shapeOf}
 
 -- f has the places of job j's fields in the input
 pub record Holds (input : List ℕ) (j : Job) (f : Fields) : Type 0 where

@@ -5,13 +5,13 @@ use mathlib.Core.List.{List, [], _∷_, _++_}
 use Prim.Native.Nat.{ℕ, _+_, _*_, _≤_}
 use lib.ListN.{length, take, drop}
 use Rattle.codes.specs.declared.Shape.{Shape}
-use Rattle.jobs.specs.declared.Content.{Content}
-use Rattle.jobs.specs.declared.Content.the-variants.{There, Missing}
-use Rattle.jobs.specs.declared.Numbers.{Numbers}
-use Rattle.jobs.specs.declared.Numbers.the-variants.{Begin, NoBegin}
-use Rattle.jobs.specs.declared.Tail.{Tail}
-use Rattle.jobs.specs.declared.Tail.the-variants.{End, NoEnd}
-use Rattle.jobs.specs.Format.{mostLost, mostStripe, field, numbers, CellSize, Job, cellField, cellSize, jobBytes}
+use Rattle.format.specs.declared.Content.{Content}
+use Rattle.format.specs.declared.Content.the-variants.{There, Missing}
+use Rattle.format.specs.declared.Numbers.{Numbers}
+use Rattle.format.specs.declared.Numbers.the-variants.{Begin, NoBegin}
+use Rattle.format.specs.declared.Tail.{Tail}
+use Rattle.format.specs.declared.Tail.the-variants.{End, NoEnd}
+use Rattle.format.specs.Format.{mostLost, mostStripe, field, numbers, CellSize, Job, cellField, cellSize, jobBytes}
 
 -- a field with this tag and n bytes of content starts at this place of the input
 pub record FieldAt (input : List ℕ) (at tag n : ℕ) : Type 0 where

@@ -6,13 +6,13 @@ use native.Mathlib.Omega.{arith}
 use lib.ListN.{length, getD, take, drop, length-drop, drop-of-length-le}
 use Rattle.xor.proofs.Runs.{part-long}
 use Rattle.codes.specs.declared.Shape.{Shape}
-use Rattle.jobs.specs.declared.Content.the-variants.{Missing}
-use Rattle.jobs.specs.declared.Tail.the-variants.{NoEnd}
-use Rattle.jobs.specs.Format.{mostLost, mostStripe, absentCell, twoBytes, field, numbers, CellSize, absent, given, Job, cellField, jobBytes, Fits}
-use Rattle.jobs.specs.Places.{FieldAt, FindsField, Begins, Ends, FindsTail}
-use Rattle.jobs.specs.Reading.{Holds}
-use Rattle.jobs.proofs.Bytes.{same-field, length-numbers, even-numbers}
-use Rattle.jobs.proofs.Places.{part-bytes, byte-field, LiesAt, lies, one-length}
+use Rattle.format.specs.declared.Content.the-variants.{Missing}
+use Rattle.format.specs.declared.Tail.the-variants.{NoEnd}
+use Rattle.format.specs.Format.{mostLost, mostStripe, absentCell, twoBytes, field, numbers, CellSize, absent, given, Job, cellField, jobBytes, Fits}
+use Rattle.format.specs.Places.{FieldAt, FindsField, Begins, Ends, FindsTail}
+use Rattle.format.specs.Reading.{Holds}
+use Rattle.format.proofs.Bytes.{same-field, length-numbers, even-numbers}
+use Rattle.format.proofs.Places.{part-bytes, byte-field, LiesAt, lies, one-length}
 
 -- fields 04 and 05 of a job
 abbrev long-fields : Job → List ℕ

@@ -4,8 +4,8 @@ use mathlib.Core.List.{List, [], _++_, head-eq-of-cons-eq}
 use Prim.Native.Nat.{ℕ, _≤_}
 use native.Mathlib.Omega.{arith}
 use lib.ListN.{length, length-append}
-use Rattle.jobs.specs.Format.{twoBytes, field, CellSize, absent, given, Job, cellField, jobBytes, Fits}
-use Rattle.jobs.proofs.Bytes.{same-two, same-field, same-numbers, length-field, length-numbers}
+use Rattle.format.specs.Format.{twoBytes, field, CellSize, absent, given, Job, cellField, jobBytes, Fits}
+use Rattle.format.proofs.Bytes.{same-two, same-field, same-numbers, length-field, length-numbers}
 
 -- where field 04 follows a cell size that may be absent, the cell size and what follows are determined
 same-size : (c d : CellSize) (a b x y : List ℕ) → cellField c ++ (field 4 a ++ x) ≡ cellField d ++ (field 4 b ++ y) → (c ≡ d) × (field 4 a ++ x ≡ field 4 b ++ y)

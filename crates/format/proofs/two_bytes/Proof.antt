@@ -1,11 +1,11 @@
--- `jobs::two_bytes` meets its contract. A byte is below 256, so the number has the two bytes.
+-- `format::two_bytes` meets its contract. A byte is below 256, so the number has the two bytes.
 use Prim.Native.Nat.{_+_, _<_}
 use lib.ListN.{getD}
 use native.Mathlib.Omega.{arith}
-use Rattle.jobs.proofs.Places.{two-there}
+use Rattle.format.proofs.Places.{two-there}
 use borrow.Author.Needs.{needs}
-use Rattle.jobs.proofs.two_bytes.Statement.{statement}
-use Rattle.jobs.proofs.two_bytes.Tie as tie
+use Rattle.format.proofs.two_bytes.Statement.{statement}
+use Rattle.format.proofs.two_bytes.Tie as tie
 
 -- both are bytes
 high : (c : tie.After-shared-slice-known2) → getD (c .before .before .args .input .now) (c .before .before .args .at) 0 < 256
