@@ -29,9 +29,9 @@ fn rebuild_column(shape: Shape, stripe: &[u8], k: usize) {
     tell(b"cells that the plan reads", plan.reads);
     let mut spare = [0u8; 2];
     run_row(shape, stripe, k, plan.rows, &mut spare);
-    let cell = spare::show(shape, stripe, &spare, k, 1, 0, k);
+    let cell = show::show(shape, stripe, &spare, k, 1, 0, k);
     tell(b"bytes shown of row 0, which is done", cell.len());
-    let reason = spare::show_reason(shape, stripe, &spare, k, 1, 1, k);
+    let reason = show::show_reason(shape, stripe, &spare, k, 1, 1, k);
     tell(b"row 1, which is not, is refused with", reason);
 }
 

@@ -1,4 +1,4 @@
--- The laws behind run and show.
+-- The laws behind run.
 pub mod Column
 pub mod Refused
 pub mod Slots
@@ -10,5 +10,3 @@ pub mod Parts
 pub mod Budget
 pub mod SameReads
 pub mod Covered
-pub mod Showing
-pub mod ShowFacts

@@ -1,4 +1,4 @@
--- The refusals of run and show: which faults each call has after which, and what holds where there is none.
+-- The refusals of a run: which faults it has after which, and what holds where there is none.
 use mathlib.Core.Path.{_≡_, refl}
 use mathlib.Core.List.{[], _∷_}
 use mathlib.Core.Bool.{not, _&&_}
@@ -14,7 +14,7 @@ use Rattle.plan.specs.Plan.{isAccepted}
 use Rattle.plan.specs.Refusals.{rdpFaults}
 use Rattle.plan.proofs.Column.{lying}
 use Rattle.plan.proofs.Refused.{rdp-accepted}
-use Rattle.spare.specs.Refusals.{spareFaults, runFaults, showFaults}
+use Rattle.spare.specs.Refusals.{spareFaults, runFaults}
 use Rattle.spare.specs.Right.{SpareRight, RunRight}
 
 -- ---- a stripe and a spare
@@ -59,29 +59,3 @@ module _ (s : Shape) (bytes spare k plan first : ℕ) where
           accepted = not-false (isAccepted s (columnOf s k) plan) (n .1 .1 .1 .0);
           start = leb-false (s .p) first (n .1 .1 .0);
         }
-
--- ---- a show
-
--- a show that is not refused: right buffers, a cell inside, and a row that is done if its column is the lost one
-pub record ShowRight (s : Shape) (bytes spare k done row column : ℕ) : Type 0 where
-  pub buffers : SpareRight s bytes spare k
-  pub low : row < rows s
-  pub right : column < columns s
-  pub ready : column ≡ k → row < done
-
-module _ (s : Shape) (bytes spare k done row column : ℕ) where
-  pub show-after : After (spareFaults s bytes spare)
-      (outside row (rows s) ∷ outside column (columns s) ∷ outside k (columns s) ∷ outside done (s .p) ∷ fault 10 (eqb column k && leb done row) ∷ [])
-      (showFaults s bytes spare k done row column)
-  unfolding showFaults spareFaults order
-  show-after = after (spareFaults s bytes spare) _ refl refl
-
-  pub show-accepted : refusal (showFaults s bytes spare k done row column) ≡ 0 → ShowRight s bytes spare k done row column
-  show-accepted none =
-      let n = show-after .none none in
-      record {
-        buffers = buffers-right s bytes spare k (n .0) (leb-false (columns s) k (n .1 .1 .1 .0));
-        low = leb-false (rows s) row (n .1 .0);
-        right = leb-false (columns s) column (n .1 .1 .0);
-        ready = λ e. leb-false done row (rw (eq-eqb column k e) at (n .1 .1 .1 .1 .1 .0));
-      }

@@ -3,4 +3,3 @@ pub mod Right
 pub mod Run
 pub mod Places
 pub mod Runs
-pub mod Show

@@ -18,9 +18,3 @@ spareFaults s bytes spare = rdpFaults s ++ otherLength bytes (stripeLength s) �
 unfoldable pub runFaults : Shape → ℕ → ℕ → ℕ → ℕ → ℕ → List Fault
 runFaults s bytes spare k plan first =
     spareFaults s bytes spare ++ outside k (columns s) ∷ outside first (s .p) ∷ fault 9 (not (isAccepted s (columnOf s k) plan)) ∷ []
-
--- the refusals of a show of a row and a column while the one at place k is being rebuilt; rows done p-1 is inside
-unfoldable pub showFaults : Shape → ℕ → ℕ → ℕ → ℕ → ℕ → ℕ → List Fault
-showFaults s bytes spare k done row column =
-    spareFaults s bytes spare
-    ++ outside row (rows s) ∷ outside column (columns s) ∷ outside k (columns s) ∷ outside done (s .p) ∷ fault 10 (eqb column k && leb done row) ∷ []

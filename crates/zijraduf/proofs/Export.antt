@@ -10,10 +10,10 @@ use Rattle.bad.specs.Bad.{Finds}
 use Rattle.bad.proofs.OneAnswer.{bad-one}
 use Rattle.plan.specs.Plans.{Plans}
 use Rattle.spare.specs.Run.{RunsByPlan}
-use Rattle.spare.specs.Show.{Shown}
+use Rattle.show.specs.Show.{Shown}
 use Rattle.plan.proofs.Planning.{plan-one}
 use Rattle.spare.proofs.SameReads.{run-one}
-use Rattle.spare.proofs.ShowFacts.{shown-one}
+use Rattle.show.proofs.ShowFacts.{shown-one}
 use Rattle.zijraduf.specs.declared.Count.{Count}
 use Rattle.zijraduf.specs.declared.Found.{Found}
 use Rattle.zijraduf.specs.declared.Planned.{Planned}

@@ -7,8 +7,8 @@ use Rattle.bad.specs.declared.BadColumn.{BadColumn}
 use Rattle.bad.specs.declared.BadColumn.the-variants.{Clean, Column, Unexplained, Refused}
 use Rattle.plan.specs.declared.PlanAnswer.{PlanAnswer}
 use Rattle.plan.specs.declared.PlanAnswer.the-variants.{Plan, Refused as PlanRefused}
-use Rattle.spare.specs.declared.ShownAt.{ShownAt}
-use Rattle.spare.specs.declared.ShownAt.the-variants.{Stripe, Spare, Refused as ShowRefused}
+use Rattle.show.specs.declared.ShownAt.{ShownAt}
+use Rattle.show.specs.declared.ShownAt.the-variants.{Stripe, Spare, Refused as ShowRefused}
 use Rattle.zijraduf.specs.declared.Count.{Count}
 use Rattle.zijraduf.specs.declared.Found.{Found}
 use Rattle.zijraduf.specs.declared.Planned.{Planned}

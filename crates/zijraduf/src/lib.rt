@@ -7,15 +7,15 @@ ghost use Rattle.stripe.specs.Write.{Writes};
 ghost use Rattle.bad.specs.Bad.{Finds};
 ghost use Rattle.plan.specs.Plans.{Plans};
 ghost use Rattle.spare.specs.Run.{RunsByPlan};
-ghost use Rattle.spare.specs.Show.{Shown};
+ghost use Rattle.show.specs.Show.{Shown};
 ghost use Rattle.jobs.specs.Answer.{AnswersInto};
 ghost use Rattle.rebuild.specs.Rebuild.{RebuildsCells, RebuildsColumns};
 ghost use Rattle.zijraduf.specs.Export.{InNumbers, countInNumbers, foundInNumbers, planInNumbers, shownInNumbers};
 use bad::BadColumn;
 use codes::Counted;
 use codes::Shape;
+use show::ShownAt;
 use spare::PlanAnswer;
-use spare::ShownAt;
 
 // A refusal number, or 0 and a count.
 #[repr(C)]
@@ -190,7 +190,7 @@ pub extern "C" fn zijraduf_show(
         (length (now (spare .entry))) k done row column) r ⌝ }
 {
     let length = shape.cell;
-    match spare::shown_at(shape, stripe.len(), spare.len(), k, done, row, column) {
+    match show::shown_at(shape, stripe.len(), spare.len(), k, done, row, column) {
         ShownAt::Stripe(offset) => Part {
             refusal: 0,
             buffer: 1,

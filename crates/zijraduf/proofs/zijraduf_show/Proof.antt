@@ -1,5 +1,5 @@
 -- `zijraduf::zijraduf_show` meets its contract. Each case of the answer becomes its four numbers.
-use Rattle.spare.specs.declared.ShownAt.the-variants.{Stripe, Spare, Refused}
+use Rattle.show.specs.declared.ShownAt.the-variants.{Stripe, Spare, Refused}
 use Rattle.zijraduf.proofs.Export.{in-numbers}
 use borrow.Author.Needs.{needs}
 use Rattle.zijraduf.proofs.zijraduf_show.Statement.{statement}

@@ -1,15 +1,15 @@
--- `spare::shown_at` meets its contract. The refusal comes first; a cell of another column lies in the stripe, and one of column k in the spare.
+-- `show::shown_at` meets its contract. The refusal comes first; a cell of another column lies in the stripe, and one of column k in the spare.
 use mathlib.Core.Path.{_≡_, sym, _∙_}
 use native.Mathlib.Omega.{arith}
 use Rattle.codes.proofs.Geometry.{column-there}
 use Rattle.codes.specs.Refusals.{refusal}
-use Rattle.spare.specs.Refusals.{showFaults}
-use Rattle.spare.proofs.Refused.{ShowRight, show-accepted}
+use Rattle.show.specs.Refusals.{showFaults}
+use Rattle.show.proofs.Refused.{ShowRight, show-accepted}
 use Rattle.spare.proofs.Column.{row-small}
-use Rattle.spare.proofs.Showing.{shown-refused, shown-spare, shown-stripe}
+use Rattle.show.proofs.Showing.{shown-refused, shown-spare, shown-stripe}
 use borrow.Author.Needs.{needs}
-use Rattle.spare.proofs.shown_at.Statement.{statement}
-use Rattle.spare.proofs.shown_at.Tie as tie
+use Rattle.show.proofs.shown_at.Statement.{statement}
+use Rattle.show.proofs.shown_at.Tie as tie
 
 show-refusal-requires : tie.Need-show-refusal-requires
 show-refusal-requires c κs = search needs

@@ -9,9 +9,9 @@ use Rattle.codes.specs.declared.Shape.{Shape}
 use Rattle.codes.specs.Shape.{cellNumber}
 use Rattle.codes.specs.Geometry.{columnOf, place}
 use Rattle.codes.specs.Refusals.{refusal}
-use Rattle.spare.specs.declared.ShownAt.{ShownAt}
-use Rattle.spare.specs.declared.ShownAt.the-variants.{Stripe, Spare, Refused}
-use Rattle.spare.specs.Refusals.{showFaults}
+use Rattle.show.specs.declared.ShownAt.{ShownAt}
+use Rattle.show.specs.declared.ShownAt.the-variants.{Stripe, Spare, Refused}
+use Rattle.show.specs.Refusals.{showFaults}
 
 -- bytes that a caller lent or is lent: a block of memory, the place in it where they start, and the bytes; the proofs' own name of them is no part of it
 abbrev pub Lent : Type 0

@@ -1,4 +1,4 @@
--- `spare::show_refusal` meets its contract. Each return gives the first refusal in order, by the tests before it.
+-- `show::show_refusal` meets its contract. Each return gives the first refusal in order, by the tests before it.
 use mathlib.Core.Path.{_≡_, refl, sym, _∙_}
 use mathlib.Core.List.{[], _∷_}
 use mathlib.Core.Bool.{_&&_}
@@ -9,11 +9,13 @@ use Rattle.xor.proofs.Cases.{and-both}
 use Rattle.codes.specs.Shape.{columns, WellFormed}
 use Rattle.codes.specs.Refusals.{fault, outside, refusal}
 use Rattle.codes.proofs.Order.{Gives, hit, miss, right, beyond, inside}
-use Rattle.spare.specs.Refusals.{spareFaults, showFaults}
-use Rattle.spare.proofs.Refused.{spare-accepted, show-after}
+use Rattle.spare.specs.Refusals.{spareFaults}
+use Rattle.show.specs.Refusals.{showFaults}
+use Rattle.spare.proofs.Refused.{spare-accepted}
+use Rattle.show.proofs.Refused.{show-after}
 use borrow.Author.Needs.{needs}
-use Rattle.spare.proofs.show_refusal.Statement.{statement}
-use Rattle.spare.proofs.show_refusal.Tie as tie
+use Rattle.show.proofs.show_refusal.Statement.{statement}
+use Rattle.show.proofs.show_refusal.Tie as tie
 
 spare-refusal-requires : tie.Need-spare-refusal-requires
 spare-refusal-requires c κs = search needs

@@ -1,10 +1,10 @@
--- `spare::show` meets its contract. Each answer is made a part of the buffer that shown_at named, from the place that it named.
+-- `show::show` meets its contract. Each answer is made a part of the buffer that shown_at named, from the place that it named.
 use mathlib.Core.Path.{refl}
 use native.Mathlib.Omega.{arith}
-use Rattle.spare.proofs.Showing.{stripe-ends, stripe-small, from-stripe, spare-ends, spare-small, from-spare, refused-some, part-made}
+use Rattle.show.proofs.Showing.{stripe-ends, stripe-small, from-stripe, spare-ends, spare-small, from-spare, refused-some, part-made}
 use borrow.Author.Needs.{needs}
-use Rattle.spare.proofs.show.Statement.{statement}
-use Rattle.spare.proofs.show.Tie as tie
+use Rattle.show.proofs.show.Statement.{statement}
+use Rattle.show.proofs.show.Tie as tie
 
 shown-at-requires : tie.Need-shown-at-requires
 shown-at-requires c κs = search needs

@@ -12,12 +12,12 @@ use Rattle.codes.specs.Refusals.{refusal}
 use Rattle.codes.proofs.Geometry.{column-there, place-inside}
 use Rattle.codes.proofs.Positions.{cell-inside}
 use Rattle.codes.proofs.Shapes.{length-high}
-use Rattle.spare.specs.declared.ShownAt.{ShownAt}
-use Rattle.spare.specs.declared.ShownAt.the-variants.{Stripe, Spare, Refused}
-use Rattle.spare.specs.Refusals.{showFaults}
-use Rattle.spare.specs.Show.{Lent, PartOf, reason, shownPlace, Shows, shownNumber, Shown}
+use Rattle.show.specs.declared.ShownAt.{ShownAt}
+use Rattle.show.specs.declared.ShownAt.the-variants.{Stripe, Spare, Refused}
+use Rattle.show.specs.Refusals.{showFaults}
+use Rattle.show.specs.Show.{Lent, PartOf, reason, shownPlace, Shows, shownNumber, Shown}
 use Rattle.spare.proofs.Column.{row-ends, row-small}
-use Rattle.spare.proofs.Refused.{ShowRight, show-accepted}
+use Rattle.show.proofs.Refused.{ShowRight, show-accepted}
 
 -- ---- where a cell ends that is shown
 

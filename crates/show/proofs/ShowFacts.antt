@@ -11,12 +11,12 @@ use Rattle.codes.specs.declared.Shape.{Shape}
 use Rattle.codes.specs.Shape.{cellNumber}
 use Rattle.codes.specs.Geometry.{columnOf}
 use Rattle.codes.specs.Encoded.{byteAt}
-use Rattle.spare.specs.declared.ShownAt.{ShownAt}
-use Rattle.spare.specs.declared.ShownAt.the-variants.{Stripe, Spare, Refused}
+use Rattle.show.specs.declared.ShownAt.{ShownAt}
+use Rattle.show.specs.declared.ShownAt.the-variants.{Stripe, Spare, Refused}
 use Rattle.spare.specs.Run.{spareByte}
-use Rattle.spare.specs.Show.{Lent, PartOf, SamePart, reason, shownPlace, Shows, shownNumber, Shown}
-use Rattle.spare.proofs.Refused.{show-accepted}
-use Rattle.spare.proofs.Showing.{in-stripe, in-spare}
+use Rattle.show.specs.Show.{Lent, PartOf, SamePart, reason, shownPlace, Shows, shownNumber, Shown}
+use Rattle.show.proofs.Refused.{show-accepted}
+use Rattle.show.proofs.Showing.{in-stripe, in-spare}
 
 -- ---- a part of a buffer
 

@@ -1,0 +1,4 @@
+-- The laws behind show.
+pub mod Refused
+pub mod Showing
+pub mod ShowFacts
