@@ -3,8 +3,9 @@
  * Link libzijraduf.a (x86-64 Linux; it needs memcpy and memset). The library
  * keeps no state, allocates nothing and takes no locks. A call that writes
  * (encode, write and the rebuilds the stripe, run the spare, job the output) needs
- * that buffer to itself while it runs; calls that only read may share one. Stack:
- * less than 40 KiB, zijraduf_job less than 88 KiB (measured).
+ * that buffer to itself while it runs; calls that only read may share one (the
+ * proofs speak of one call at a time). Stack: less than 40 KiB, zijraduf_job less
+ * than 88 KiB (measured).
  *
  * A stripe is rows x columns cells of `cell` bytes each, by the code:
  *
