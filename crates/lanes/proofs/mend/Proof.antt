@@ -1,9 +1,9 @@
 -- `lanes::mend` meets its contract. Nothing is filled unless the survivors pass.
-use mathlib.Core.Path.{sym, ap, _∙_, subst}
+use mathlib.Core.Path.{_≡_, sym, ap, subst}
 use mathlib.Core.Logic.{inl, inr, ⊎-elim}
 use Rattle.lanes.specs.Lanes.{Filled}
 use Rattle.equation.proofs.Windows.{whole}
-use Rattle.lanes.proofs.Lanes.{passes-whole, mends-not, mends-done}
+use Rattle.lanes.proofs.Lanes.{passes-whole, Either, mends-not, mends-done}
 use Prim.Native.Nat.{ℕ}
 use mathlib.Core.List.{List}
 use native.Mathlib.Omega.{arith}
@@ -31,17 +31,25 @@ fill-requires c κs =
       c .before .before .before .before .survivors-agree .ensures .1,
     )
 
+-- the lost cells are filled exactly where the survivors pass
+came : (c : tie.Joined1) → Either (c .before .before .before .before .before .before .args .shape) (c .before .before .before .before .before .before .args .listed .now) (c .before .before .before .before .before .before .args .sets .now) (c .before .before .before .before .before .before .args .lost) (c .before .before .before .before .before .before .args .checks .now) (c .before .before .before .before .before .before .args .v) (c .before .before .before .before .before .before .args .stripe .now) (c .before .before .survivors-agree .result) (c .if1 .stripe)
+came c = ⊎-elim (λ way. inl (way .0 .taken, subst (Filled _ _ _ _ 0 _ _) (sym (way .7)) (way .3 .ensures))) (λ way. inr (way .0 .left, way .1)) (c .if1 .came)
+
+-- and the stripe is as long as before
+kept : (c : tie.Joined1) → length (c .if1 .stripe) ≡ length (c .before .before .before .before .before .before .args .stripe .now)
+kept c = ⊎-elim (λ filled. filled .1 .long) (λ not. ap (λ (l : List ℕ). length l) (not .1)) (came c)
+
 same-length : tie.Need-same-length
-same-length c = ⊎-elim (λ way. ap (λ (l : List ℕ). length l) (way .7) ∙ way .3 .ensures .long) (λ way. ap (λ (l : List ℕ). length l) (way .1)) (c .before .if1 .came)
+same-length c = kept (c .before)
 
 returns : tie.Need-returns
-returns c = mends-done (c .before .before .before .before .before .before .before .args .shape) _ _ _ _ _ (c .before .before .before .before .before .before .before .args .stripe .now) (c .before .before .before .survivors-agree .result) (c .before .if1 .stripe) (passes-whole _ _ _ _ _ (c .before .before .before .survivors-agree .ensures .0)) (⊎-elim (λ way. inl (way .0 .taken, subst (Filled _ _ _ _ 0 _ _) (sym (way .7)) (way .3 .ensures))) (λ way. inr (way .0 .left, way .1)) (c .before .if1 .came)) (c .if2 .taken)
+returns c = mends-done _ _ _ _ _ _ _ _ _ (passes-whole _ _ _ _ _ (c .before .before .before .survivors-agree .ensures .0)) (came (c .before)) (c .if2 .taken)
 
 same-length-2 : tie.Need-same-length-2
-same-length-2 c = ⊎-elim (λ way. ap (λ (l : List ℕ). length l) (way .7) ∙ way .3 .ensures .long) (λ way. ap (λ (l : List ℕ). length l) (way .1)) (c .before .if1 .came)
+same-length-2 c = kept (c .before)
 
 returns-2 : tie.Need-returns-2
-returns-2 c = mends-not (c .before .before .before .before .before .before .before .args .shape) _ _ _ _ _ (c .before .before .before .before .before .before .before .args .stripe .now) (c .before .before .before .survivors-agree .result) (c .before .if1 .stripe) (passes-whole _ _ _ _ _ (c .before .before .before .survivors-agree .ensures .0)) (⊎-elim (λ way. inl (way .0 .taken, subst (Filled _ _ _ _ 0 _ _) (sym (way .7)) (way .3 .ensures))) (λ way. inr (way .0 .left, way .1)) (c .before .if1 .came)) (c .if2 .left)
+returns-2 c = mends-not _ _ _ _ _ _ _ _ _ (passes-whole _ _ _ _ _ (c .before .before .before .survivors-agree .ensures .0)) (came (c .before)) (c .if2 .left)
 
 pub mend-spec : {M : Type 1} → statement M
 mend-spec =
