@@ -1,17 +1,19 @@
 -- A stripe made of given bytes: F t c in byte t of cell c.
-use mathlib.Core.Path.{_≡_, refl, ap, ap₂, _∙_}
+use mathlib.Core.Path.{_≡_, refl, sym, ap, ap₂, _∙_}
+use mathlib.Core.Bool.{true, false}
 use mathlib.Core.List.{List, [], _∷_}
 use Prim.Native.Nat.{ℕ, zero, suc, _+_, _*_, _/_, _%_, _<_}
 use native.Mathlib.Nat.{le-of-suc-le-suc}
 use native.Mathlib.Omega.{arith}
 use lib.Arith.{digits-div, digits-mod}
 use lib.ListN.{length, getD}
+use Rattle.xor.proofs.Cases.{by-test}
 use Rattle.codes.specs.declared.Shape.{Shape}
 use Rattle.codes.specs.Shape.{cells, stripeLength, WellFormed}
-use Rattle.codes.specs.Geometry.{cellOf, callersCell, place}
+use Rattle.codes.specs.Geometry.{cellThere, cellOf, callersCell, place}
 use Rattle.codes.specs.Encoded.{byteAt}
 use Rattle.codes.proofs.Places.{cell-ends}
-use Rattle.codes.proofs.Geometry.{callers-inside, cell-of-callers}
+use Rattle.codes.proofs.Geometry.{callers-inside, cell-of-callers, byte-there, byte-missing}
 
 -- F 0, F 1, up to F (n - 1)
 listed-of : ℕ → (ℕ → ℕ) → List ℕ
@@ -41,8 +43,16 @@ pub built-byte : (s : Shape) (F : ℕ → ℕ → ℕ) (i : ℕ) → i < stripeL
 unfolding built
 built-byte s F i l = listed-at (stripeLength s) (λ k. F (k % s .cell) (cellOf s (k / s .cell))) i l
 
-pub built-at : (s : Shape) → WellFormed s → (F : ℕ → ℕ → ℕ) (c : ℕ) → c < cells s → (t : ℕ) → t < s .cell → byteAt s (built s F) c t ≡ F t c
-unfolding byteAt place
-built-at s w F c lc t lt =
-    built-byte s F (callersCell s c * s .cell + t) (omega (arith, cell-ends s w (callersCell s c) (callers-inside s w c lc)))
-    ∙ ap₂ F (digits-mod (callersCell s c) lt) (ap (cellOf s) (digits-div (callersCell s c) lt) ∙ cell-of-callers s w c lc)
+-- F is zero where a cell doesn't exist
+abbrev pub Blank : Shape → (ℕ → ℕ → ℕ) → Type 0
+Blank s F = (t c : ℕ) → cellThere s c ≡ false → F t c ≡ 0
+
+pub built-at : (s : Shape) → WellFormed s → (F : ℕ → ℕ → ℕ) → Blank s F → (c : ℕ) → c < cells s → (t : ℕ) → t < s .cell → byteAt s (built s F) c t ≡ F t c
+unfolding place
+built-at s w F blank c lc t lt = by-test (cellThere s c) there (λ h. byte-missing s w (built s F) c t h ∙ sym (blank t c h))
+  where
+    there : cellThere s c ≡ true → byteAt s (built s F) c t ≡ F t c
+    there h =
+        byte-there s w (built s F) c t h
+        ∙ built-byte s F (callersCell s c * s .cell + t) (omega (arith, cell-ends s w (callersCell s c) (callers-inside s w c lc h)))
+        ∙ ap₂ F (digits-mod (callersCell s c) lt) (ap (cellOf s) (digits-div (callersCell s c) lt) ∙ cell-of-callers s w c h)

@@ -1,35 +1,108 @@
--- Where the cells of a stripe lie: their places are inside the stripe, apart from each other, and fill it.
--- All of this follows from four laws of the map between columns and where they lie (`column-there` to `column-lies`).
+-- Where the cells of a stripe lie: the places of those that exist are inside the stripe, apart from each other, and fill it.
+-- All of this follows from five laws of the map between columns and where they lie (`column-there` to `column-lies`).
 use mathlib.Core.Path.{_≡_, refl, sym, ap, ap₂, _∙_, subst}
 use mathlib.Core.Logic.{_≢_, _⊎_}
-use Prim.Native.Nat.{ℕ, _+_, _*_, _/_, _%_, _≤_, _<_}
+use mathlib.Core.List.{List}
+use mathlib.Core.Bool.{true, false}
+use Prim.Native.Nat.{ℕ, _+_, _-_, _*_, _/_, _%_, _≤_, _<_}
 use native.Mathlib.Nat.{mod-lt, div-lt-iff-lt-mul, div-add-mod', add-mul, mul-assoc, mul-le-mul}
 use native.Mathlib.Omega.{arith}
+use lib.Arith.{digits-lt}
+use lib.Dec.{ltb, leb}
+use lib.ListN.{getD}
+use borrow.Author.Tests.{lt-ltb, le-ltb, ltb-true, le-leb, leb-true}
+use Rattle.xor.proofs.Cases.{by-less, by-equal, clash, either, or-left, or-right}
 use Rattle.codes.specs.declared.Shape.{Shape}
-use Rattle.codes.specs.Shape.{rows, columns, cells, cellNumber, stripeLength, WellFormed}
-use Rattle.codes.specs.Geometry.{columnOf, liesAt, cellOf, callersCell, place}
-use Rattle.codes.proofs.Shapes.{rows-low, rows-high, length-high}
+use Rattle.codes.specs.Shape.{rows, columns, equations, cells, cellNumber, missing, disks, existing, stripeLength, WellFormed}
+use Rattle.codes.specs.Geometry.{gap, isThere, cellThere, columnOf, liesAt, cellOf, callersCell, place}
+use Rattle.codes.specs.Encoded.{parityCell, byteAt}
+use Rattle.codes.proofs.Shapes.{rows-low, rows-high, few-columns, missing-low, missing-other, disks-is, disks-high, length-high}
 use Rattle.codes.proofs.Places.{cell-ends, cells-apart}
-use Rattle.codes.proofs.Positions.{row-is, column-is, cell-inside}
+use Rattle.codes.proofs.Lines.{rdp-rows}
+use Rattle.codes.proofs.Positions.{row-is, column-is, cell-inside, families, rdp-n, rdp-first, rdp-second}
 
 -- ---- the map between columns and where they lie
 
 module _ (s : Shape) where
-  pub column-there : (d : ℕ) → d < columns s → columnOf s d < columns s
+  -- a column that exists is before the gap, or one of those after the data columns
+  pub there-cases : {A : Type 0} (j : ℕ) → isThere s j ≡ true → (j < gap s → A) → (s .p - 1 ≤ j → A) → A
+  unfolding isThere
+  there-cases j h before after = either (ltb j (gap s)) (leb (s .p - 1) j) h (λ p. before (ltb-true j (gap s) p)) (λ p. after (leb-true (s .p - 1) j p))
+
+  pub there-before : (j : ℕ) → j < gap s → isThere s j ≡ true
+  unfolding isThere
+  there-before j l = or-left (leb (s .p - 1) j) (lt-ltb j (gap s) l)
+
+  pub there-after : (j : ℕ) → s .p - 1 ≤ j → isThere s j ≡ true
+  unfolding isThere
+  there-after j l = or-right (ltb j (gap s)) (le-leb (s .p - 1) j l)
+
+  -- what is not there lies in the gap
+  pub there-not : (j : ℕ) → isThere s j ≡ false → (gap s ≤ j) × (j < s .p - 1)
+  there-not j h =
+      by-less j (gap s) (λ l. clash (there-before j l) h)
+      (λ l. by-less j (s .p - 1) (λ k. (l, k)) (λ k. clash (there-after j k) h))
+
+  -- where no column is missing, each is there and lies by its number
+  pub there-all : missing s ≡ 0 → (j : ℕ) → isThere s j ≡ true
+  there-all e j = by-less j (s .p - 1) (λ l. there-before j (omega arith)) (there-after j)
+
+  pub column-before : (d : ℕ) → d < gap s → columnOf s d ≡ d
   unfolding columnOf
-  column-there d l = l
+  column-before d l = rw (lt-ltb d (gap s) l) refl
 
-  pub lies-there : (j : ℕ) → j < columns s → liesAt s j < columns s
+  pub column-after : (d : ℕ) → gap s ≤ d → columnOf s d ≡ d + missing s
+  unfolding columnOf
+  column-after d l = rw (le-ltb d (gap s) l) refl
+
+  pub lies-before : (j : ℕ) → j < gap s → liesAt s j ≡ j
   unfolding liesAt
-  lies-there j l = l
+  lies-before j l = rw (lt-ltb j (gap s) l) refl
 
-  pub lies-column : (d : ℕ) → d < columns s → liesAt s (columnOf s d) ≡ d
-  unfolding columnOf liesAt
-  lies-column d l = refl
+  pub lies-after : (j : ℕ) → gap s ≤ j → liesAt s j ≡ j - missing s
+  unfolding liesAt
+  lies-after j l = rw (le-ltb j (gap s) l) refl
 
-  pub column-lies : (j : ℕ) → j < columns s → columnOf s (liesAt s j) ≡ j
-  unfolding columnOf liesAt
-  column-lies j l = refl
+  pub column-all : missing s ≡ 0 → (d : ℕ) → columnOf s d ≡ d
+  column-all e d = by-less d (gap s) (column-before d) (λ l. column-after d l ∙ same)
+    where
+      same : d + missing s ≡ d
+      same = omega arith
+
+  pub lies-all : missing s ≡ 0 → (j : ℕ) → liesAt s j ≡ j
+  lies-all e j = by-less j (gap s) (lies-before j) (λ l. lies-after j l ∙ same)
+    where
+      same : j - missing s ≡ j
+      same = omega arith
+
+module _ (s : Shape) (w : WellFormed s) where
+  pub column-there : (d : ℕ) → d < disks s → columnOf s d < columns s
+  column-there d l = by-less d (gap s) (λ k. omega (arith, column-before s d k, disks-high s w)) (λ k. omega (arith, column-after s d k, disks-is s w))
+
+  pub is-there : (d : ℕ) → isThere s (columnOf s d) ≡ true
+  is-there d =
+      by-less d (gap s) (λ k. there-before s (columnOf s d) (omega (arith, column-before s d k)))
+      (λ k. there-after s (columnOf s d) (omega (arith, column-after s d k, missing-low s w)))
+
+  pub lies-there : (j : ℕ) → j < columns s → isThere s j ≡ true → liesAt s j < disks s
+  lies-there j l h =
+      there-cases s j h (λ k. omega (arith, lies-before s j k, disks-is s w, missing-low s w, few-columns s w)) (λ k. omega (arith, lies-after s j (omega (arith, missing-low s w)), disks-is s w, missing-low s w))
+
+  pub lies-column : (d : ℕ) → liesAt s (columnOf s d) ≡ d
+  lies-column d =
+      by-less d (gap s) (λ k. ap (liesAt s) (column-before s d k) ∙ lies-before s d k)
+      (λ k. ap (liesAt s) (column-after s d k) ∙ lies-after s (d + missing s) (omega arith) ∙ back)
+    where
+      back : d + missing s - missing s ≡ d
+      back = omega arith
+
+  pub column-lies : (j : ℕ) → isThere s j ≡ true → columnOf s (liesAt s j) ≡ j
+  column-lies j h =
+      there-cases s j h (λ k. ap (columnOf s) (lies-before s j k) ∙ column-before s j k)
+      (λ k. ap (columnOf s) (lies-after s j (omega (arith, missing-low s w))) ∙ column-after s (j - missing s) (omega (arith, missing-low s w)) ∙ back k)
+    where
+      back : s .p - 1 ≤ j → j - missing s + missing s ≡ j
+      back k = omega (arith, missing-low s w)
 
 module _ (s : Shape) (w : WellFormed s) where
   tall : 0 < rows s
@@ -48,6 +121,18 @@ module _ (s : Shape) (w : WellFormed s) where
   unfolding cells
   column-at c l = div-lt-iff-lt-mul tall .1 l
 
+  pub disk-at : (c : ℕ) → c < existing s → c / rows s < disks s
+  unfolding existing
+  disk-at c l = div-lt-iff-lt-mul tall .1 l
+
+  pub lies-inside : (i d : ℕ) → i < rows s → d < disks s → cellNumber s i d < existing s
+  unfolding cellNumber existing
+  lies-inside i d li ld = digits-lt ld li
+
+  pub cell-there-at : (i j : ℕ) → i < rows s → cellThere s (cellNumber s i j) ≡ isThere s j
+  unfolding cellThere
+  cell-there-at i j l = ap (isThere s) (column-is s w i j l)
+
   -- ---- the equations' number of a cell, and what callers call it
 
   pub callers-at : (i j : ℕ) → i < rows s → callersCell s (cellNumber s i j) ≡ cellNumber s i (liesAt s j)
@@ -58,21 +143,25 @@ module _ (s : Shape) (w : WellFormed s) where
   unfolding cellOf
   cell-of-at i d l = ap₂ (λ (x y : ℕ). cellNumber s x (columnOf s y)) (row-is s w i d l) (column-is s w i d l)
 
-  pub callers-inside : (c : ℕ) → c < cells s → callersCell s c < cells s
-  unfolding callersCell
-  callers-inside c l = cell-inside s w (c % rows s) (liesAt s (c / rows s)) (row-at c) (lies-there s (c / rows s) (column-at c l))
+  pub callers-inside : (c : ℕ) → c < cells s → cellThere s c ≡ true → callersCell s c < existing s
+  unfolding callersCell cellThere
+  callers-inside c l h = lies-inside (c % rows s) (liesAt s (c / rows s)) (row-at c) (lies-there s w (c / rows s) (column-at c l) h)
 
-  pub cell-of-inside : (c : ℕ) → c < cells s → cellOf s c < cells s
+  pub cell-of-inside : (c : ℕ) → c < existing s → cellOf s c < cells s
   unfolding cellOf
-  cell-of-inside c l = cell-inside s w (c % rows s) (columnOf s (c / rows s)) (row-at c) (column-there s (c / rows s) (column-at c l))
+  cell-of-inside c l = cell-inside s w (c % rows s) (columnOf s (c / rows s)) (row-at c) (column-there s w (c / rows s) (disk-at c l))
 
-  pub cell-of-callers : (c : ℕ) → c < cells s → cellOf s (callersCell s c) ≡ c
-  unfolding callersCell
-  cell-of-callers c l = cell-of-at (c % rows s) (liesAt s (c / rows s)) (row-at c) ∙ ap (cellNumber s (c % rows s)) (column-lies s (c / rows s) (column-at c l)) ∙ number-at c
-
-  pub callers-cell-of : (c : ℕ) → c < cells s → callersCell s (cellOf s c) ≡ c
+  pub cell-of-there : (c : ℕ) → cellThere s (cellOf s c) ≡ true
   unfolding cellOf
-  callers-cell-of c l = callers-at (c % rows s) (columnOf s (c / rows s)) (row-at c) ∙ ap (cellNumber s (c % rows s)) (lies-column s (c / rows s) (column-at c l)) ∙ number-at c
+  cell-of-there c = cell-there-at (c % rows s) (columnOf s (c / rows s)) (row-at c) ∙ is-there s w (c / rows s)
+
+  pub cell-of-callers : (c : ℕ) → cellThere s c ≡ true → cellOf s (callersCell s c) ≡ c
+  unfolding callersCell cellThere
+  cell-of-callers c h = cell-of-at (c % rows s) (liesAt s (c / rows s)) (row-at c) ∙ ap (cellNumber s (c % rows s)) (column-lies s w (c / rows s) h) ∙ number-at c
+
+  pub callers-cell-of : (c : ℕ) → callersCell s (cellOf s c) ≡ c
+  unfolding cellOf
+  callers-cell-of c = callers-at (c % rows s) (columnOf s (c / rows s)) (row-at c) ∙ ap (cellNumber s (c % rows s)) (lies-column s w (c / rows s)) ∙ number-at c
 
   -- ---- places
 
@@ -80,29 +169,40 @@ module _ (s : Shape) (w : WellFormed s) where
   unfolding place cellNumber
   place-at i j l = ap (λ (c : ℕ). c * s .cell) (callers-at i j l)
 
-  pub place-inside : (c : ℕ) → c < cells s → place s c + s .cell ≤ stripeLength s
+  pub place-inside : (c : ℕ) → c < cells s → cellThere s c ≡ true → place s c + s .cell ≤ stripeLength s
   unfolding place
-  place-inside c l = cell-ends s w (callersCell s c) (callers-inside c l)
+  place-inside c l h = cell-ends s w (callersCell s c) (callers-inside c l h)
 
-  pub place-small : (c : ℕ) → c < cells s → place s c ≤ 3936256
-  place-small c l = omega (arith, place-inside c l, length-high s w)
+  pub place-small : (c : ℕ) → c < cells s → cellThere s c ≡ true → place s c ≤ 3936256
+  place-small c l h = omega (arith, place-inside c l h, length-high s w)
 
   -- two different cells do not meet
-  pub place-apart : (c d : ℕ) → c < cells s → d < cells s → c ≢ d → (place s c + s .cell ≤ place s d) ⊎ (place s d + s .cell ≤ place s c)
+  pub place-apart : (c d : ℕ) → cellThere s c ≡ true → cellThere s d ≡ true → c ≢ d → (place s c + s .cell ≤ place s d) ⊎ (place s d + s .cell ≤ place s c)
   unfolding place
-  place-apart c d lc ld n = cells-apart s w (callersCell s c) (callersCell s d) (λ e. n (sym (cell-of-callers c lc) ∙ ap (cellOf s) e ∙ cell-of-callers d ld))
+  place-apart c d hc hd n = cells-apart s w (callersCell s c) (callersCell s d) (λ e. n (sym (cell-of-callers c hc) ∙ ap (cellOf s) e ∙ cell-of-callers d hd))
 
-  -- every byte of the stripe is one of a cell
-  pub place-all : (i : ℕ) → i < stripeLength s → (c : ℕ) × (c < cells s) × (t : ℕ) × (t < s .cell) × (i ≡ place s c + t)
+  -- every byte of the stripe is one of a cell that exists
+  pub place-all : (i : ℕ) → i < stripeLength s → (c : ℕ) × (c < cells s) × (cellThere s c ≡ true) × (t : ℕ) × (t < s .cell) × (i ≡ place s c + t)
   unfolding place stripeLength
   place-all i l =
-      let inside : i / s .cell < cells s = div-lt-iff-lt-mul (w .cellLow) .1 l in (
+      let inside : i / s .cell < existing s = div-lt-iff-lt-mul (w .cellLow) .1 l in (
         cellOf s (i / s .cell),
         cell-of-inside (i / s .cell) inside,
+        cell-of-there (i / s .cell),
         i % s .cell,
         mod-lt i (w .cellLow),
-        sym (ap (λ (c : ℕ). c * s .cell + i % s .cell) (callers-cell-of (i / s .cell) inside) ∙ div-add-mod' i (s .cell)),
+        sym (ap (λ (c : ℕ). c * s .cell + i % s .cell) (callers-cell-of (i / s .cell)) ∙ div-add-mod' i (s .cell)),
       )
+
+  -- ---- bytes: of a cell that exists, and of one that does not
+
+  pub byte-there : (stripe : List ℕ) (c t : ℕ) → cellThere s c ≡ true → byteAt s stripe c t ≡ getD stripe (place s c + t) 0
+  unfolding byteAt
+  byte-there stripe c t h = rw h refl
+
+  pub byte-missing : (stripe : List ℕ) (c t : ℕ) → cellThere s c ≡ false → byteAt s stripe c t ≡ 0
+  unfolding byteAt
+  byte-missing stripe c t h = rw h refl
 
   -- ---- as the code works them out
 
@@ -117,8 +217,8 @@ module _ (s : Shape) (w : WellFormed s) where
   pub column-small : (n : ℕ) → n ≡ rows s → n * s .cell ≤ 126976
   column-small n e = mul-le-mul (let few : n ≤ 31 = omega (arith, rows-high s w) in few) (w .cellHigh)
 
-  pub first-small : (j : ℕ) → j < columns s → place s (cellNumber s 0 j) ≤ 3936256
-  first-small j l = place-small (cellNumber s 0 j) (cell-inside s w 0 j tall l)
+  pub first-small : (j : ℕ) → j < columns s → isThere s j ≡ true → place s (cellNumber s 0 j) ≤ 3936256
+  first-small j l h = place-small (cellNumber s 0 j) (cell-inside s w 0 j tall l) (cell-there-at 0 j tall ∙ h)
 
   pub place-down : (i j from : ℕ) → i < rows s → from ≡ place s (cellNumber s 0 j) → from + i * s .cell ≡ place s (cellNumber s i j)
   place-down i j from l e = omega (arith, e, place-at 0 j tall, place-at i j l, add-mul (liesAt s j * rows s) 0 (s .cell), add-mul (liesAt s j * rows s) i (s .cell))
@@ -132,6 +232,25 @@ module _ (s : Shape) (w : WellFormed s) where
   pub column-seen : (c n : ℕ) → n ≡ rows s → c < cells s → c / n < columns s
   column-seen c n e l = subst (λ (k : ℕ). c / k < columns s) (sym e) (column-at c l)
 
+  pub disk-seen : (c n : ℕ) → n ≡ rows s → c < existing s → c / n < disks s
+  disk-seen c n e l = subst (λ (k : ℕ). c / k < disks s) (sym e) (disk-at c l)
+
+  pub there-seen : (c n : ℕ) → n ≡ rows s → cellThere s c ≡ true → isThere s (c / n) ≡ true
+  unfolding cellThere
+  there-seen c n e h = subst (λ (k : ℕ). isThere s (c / k) ≡ true) (sym e) h
+
   pub cell-of-is : (c d n : ℕ) → n ≡ rows s → d ≡ columnOf s (c / n) → d * n + c % n ≡ cellOf s c
   unfolding cellOf cellNumber
   cell-of-is c d n en ed = ap₂ (λ (x y : ℕ). x * y + c % y) ed en ∙ ap (λ (y : ℕ). columnOf s (c / y) * rows s + c % rows s) en
+
+  -- ---- parity cells exist
+
+  pub parity-there : (q : ℕ) → q < equations s → cellThere s (parityCell s q) ≡ true
+  unfolding cellThere
+  parity-there q l =
+      by-equal (s .code) 1
+      (λ e. families (λ r. cellThere s (parityCell s r) ≡ true) (s .p - 1)
+      (λ r lr. ap (cellThere s) (rdp-first s w e r lr) ∙ cell-there-at r (s .p - 1) (omega (arith, rdp-rows s w e)) ∙ there-after s (s .p - 1) (omega arith))
+      (λ d ld. ap (cellThere s) (rdp-second s w e d ld) ∙ cell-there-at d (s .p) (omega (arith, rdp-rows s w e)) ∙ there-after s (s .p) (omega arith))
+      q (omega (arith, rdp-n s w e)))
+      (λ n. there-all s (missing-other s w n) (parityCell s q / rows s))

@@ -11,6 +11,9 @@ pub mod Places
 pub mod Geometry
 pub mod Parity
 pub mod Built
+pub mod Stepping
+pub mod Short
+pub mod Whole
 pub mod Walked
 pub mod Units
 pub mod Held

@@ -1,4 +1,4 @@
--- The six families of equations as lines: each line goes once through the cells that its equation sums.
+-- The six families of equations as tracks: each track goes once through the cells that its equation sums, those that don't exist too.
 use mathlib.Core.Path.{_≡_, refl, sym, ap, ap₂, _∙_, subst}
 use mathlib.Core.Logic.{_≢_}
 use mathlib.Core.Bool.{true, not, _&&_}
@@ -12,64 +12,85 @@ use Rattle.xor.proofs.Cases.{by-equal, and-left, and-right, and-both}
 use Rattle.xor.specs.Xor.{xors}
 use Rattle.xor.proofs.Sums.{xors-same, Lists, xors-listed}
 use Rattle.codes.specs.declared.Shape.{Shape}
-use Rattle.codes.specs.declared.Line.{Line}
 use Rattle.codes.specs.Shape.{rows, columns, cells, cellNumber, equations, WellFormed}
 use Rattle.codes.specs.Equations.{Equation, rdp, hcode, xcode, equation, rdpRow, rdpDiagonal, hcodeRow, hcodeAntiDiagonal, xcodeFirst, xcodeSecond}
 use Rattle.codes.specs.Encoded.{parityCell, sumsCell, sumOver}
-use Rattle.codes.specs.Lines.{lineCell, Walks}
 use Rattle.codes.proofs.Shapes.{low, high, rows-low, few-columns, rdp-is, hcode-is, xcode-is, rows-of, columns-of, equations-of, first-of, second-of}
 use Rattle.codes.proofs.Residues.{there-and-back, steps-back, turns}
 
+-- a track of `count` cells: it starts in a row and a column, and each next cell is `fall` rows down and `step` columns on, mod p
+pub record Track : Type 0 where
+  pub count : ℕ
+  pub row : ℕ
+  pub fall : ℕ
+  pub column : ℕ
+  pub step : ℕ
+
 -- row and column of cell k
-abbrev lineRow : Line → ℕ → ℕ
-lineRow l k = l .row + l .fall * k
+abbrev pub trackRow : Track → ℕ → ℕ
+trackRow l k = l .row + l .fall * k
 
-abbrev lineColumn : ℕ → Line → ℕ → ℕ
-lineColumn p l k = (l .column + l .step * k) % p
+abbrev pub trackColumn : ℕ → Track → ℕ → ℕ
+trackColumn p l k = (l .column + l .step * k) % p
 
--- a line that falls from row 0 on, and one along row r
-abbrev fallen : Equation → ℕ → ℕ → ℕ → Line
-fallen e count column step = record { level = e .row; parity = e .column; count = count; row = 0; fall = 1; column = column; step = step }
+abbrev pub trackCell : Shape → Track → ℕ → ℕ
+trackCell s l k = cellNumber s (trackRow l k) (trackColumn (s .p) l k)
 
-abbrev flat : Equation → ℕ → ℕ → ℕ → Line
-flat e count r column = record { level = e .row; parity = e .column; count = count; row = r; fall = 0; column = column; step = 1 }
+-- a track that falls from row 0 on, and one along row r
+abbrev pub fallen : ℕ → ℕ → ℕ → Track
+fallen count column step = record { count = count; row = 0; fall = 1; column = column; step = step }
 
--- the line goes through the cells (i, j) that pass the test, once through each
-record Through (s : Shape) (e : Equation) (l : Line) : Type 0 where
-  parity : cellNumber s (l .level) (l .parity) ≡ cellNumber s (e .row) (e .column)
-  level : l .level < rows s
-  right : l .parity < columns s
+abbrev pub flat : ℕ → ℕ → ℕ → Track
+flat count r column = record { count = count; row = r; fall = 0; column = column; step = 1 }
+
+-- the track of equation q: it stays inside the stripe, and goes once through the cells that the equation sums
+pub record Tracked (s : Shape) (q : ℕ) (l : Track) : Type 0 where
+  pub some : 1 ≤ l .count
+  pub few : l .count ≤ 30
+  pub column : l .column < s .p
+  pub step : l .step < s .p
+  pub in-row : (k : ℕ) → k < l .count → trackRow l k < rows s
+  pub in-column : (k : ℕ) → trackColumn (s .p) l k < columns s
+  pub lists : Lists (cells s) (sumsCell s q) (l .count) (trackCell s l)
+
+-- its sum is that of the equation
+pub track-sum : (s : Shape) (q : ℕ) (l : Track) → Tracked s q l → (f : ℕ → ℕ) → sumOver s q f ≡ xors (l .count) (λ k. f (trackCell s l k))
+unfolding sumOver
+track-sum s q l h = xors-listed (cells s) (sumsCell s q) (l .count) (trackCell s l) (h .lists)
+
+-- the track goes through the cells (i, j) that pass the test, once through each
+record Through (s : Shape) (e : Equation) (l : Track) : Type 0 where
+  some : 1 ≤ l .count
   few : l .count ≤ 30
-  low′ : l .row + l .fall * l .count ≤ 62
   column : l .column < s .p
   step : l .step < s .p
-  in-row : (k : ℕ) → k < l .count → lineRow l k < rows s
-  passes : (k : ℕ) → k < l .count → e .sums (lineRow l k) (lineColumn (s .p) l k) ≡ true
-  all : (i j : ℕ) → i < rows s → j < columns s → e .sums i j ≡ true → (k : ℕ) × (k < l .count) × (lineRow l k ≡ i) × (lineColumn (s .p) l k ≡ j)
-  once : (j k : ℕ) → j < l .count → k < l .count → lineRow l j ≡ lineRow l k → lineColumn (s .p) l j ≡ lineColumn (s .p) l k → j ≡ k
+  in-row : (k : ℕ) → k < l .count → trackRow l k < rows s
+  passes : (k : ℕ) → k < l .count → e .sums (trackRow l k) (trackColumn (s .p) l k) ≡ true
+  all : (i j : ℕ) → i < rows s → j < columns s → e .sums i j ≡ true → (k : ℕ) × (k < l .count) × (trackRow l k ≡ i) × (trackColumn (s .p) l k ≡ j)
+  once : (j k : ℕ) → j < l .count → k < l .count → trackRow l j ≡ trackRow l k → trackColumn (s .p) l j ≡ trackColumn (s .p) l k → j ≡ k
 
 module _ (s : Shape) (w : WellFormed s) where
-  module _ (q : ℕ) (e : Equation) (l : Line) (is : equation s q ≡ e) (h : Through s e l) where
-    in-column : (k : ℕ) → lineColumn (s .p) l k < columns s
-    in-column k = let small : lineColumn (s .p) l k < s .p = mod-lt (l .column + l .step * k) (omega (arith, low s w)) in omega (arith, few-columns s w)
+  module _ (q : ℕ) (e : Equation) (l : Track) (is : equation s q ≡ e) (h : Through s e l) where
+    in-column : (k : ℕ) → trackColumn (s .p) l k < columns s
+    in-column k = let small : trackColumn (s .p) l k < s .p = mod-lt (l .column + l .step * k) (omega (arith, low s w)) in omega (arith, few-columns s w)
 
-    row-of : (k : ℕ) → k < l .count → lineCell s l k % rows s ≡ lineRow l k
-    unfolding lineCell cellNumber
-    row-of k lk = digits-mod (lineColumn (s .p) l k) (h .in-row k lk)
+    row-of : (k : ℕ) → k < l .count → trackCell s l k % rows s ≡ trackRow l k
+    unfolding cellNumber
+    row-of k lk = digits-mod (trackColumn (s .p) l k) (h .in-row k lk)
 
-    column-of : (k : ℕ) → k < l .count → lineCell s l k / rows s ≡ lineColumn (s .p) l k
-    unfolding lineCell cellNumber
-    column-of k lk = digits-div (lineColumn (s .p) l k) (h .in-row k lk)
+    column-of : (k : ℕ) → k < l .count → trackCell s l k / rows s ≡ trackColumn (s .p) l k
+    unfolding cellNumber
+    column-of k lk = digits-div (trackColumn (s .p) l k) (h .in-row k lk)
 
     sums-is : (c : ℕ) → sumsCell s q c ≡ e .sums (c % rows s) (c / rows s)
     unfolding sumsCell
     sums-is c = ap (λ (x : Equation). x .sums (c % rows s) (c / rows s)) is
 
-    lists : Lists (cells s) (sumsCell s q) (l .count) (lineCell s l)
-    unfolding cells lineCell cellNumber
+    lists : Lists (cells s) (sumsCell s q) (l .count) (trackCell s l)
+    unfolding cells cellNumber
     lists = record {
       below = λ k lk. digits-lt (in-column k) (h .in-row k lk);
-      passes = λ k lk. sums-is (lineCell s l k) ∙ ap₂ (λ (i j : ℕ). e .sums i j) (row-of k lk) (column-of k lk) ∙ h .passes k lk;
+      passes = λ k lk. sums-is (trackCell s l k) ∙ ap₂ (λ (i j : ℕ). e .sums i j) (row-of k lk) (column-of k lk) ∙ h .passes k lk;
       all = λ c lc p.
           let found = h .all (c % rows s) (c / rows s) (mod-lt c (omega (arith, rows-low s w))) (div-lt-iff-lt-mul (omega (arith, rows-low s w)) .1 lc) (sym (sums-is c) ∙ p) in
           (found .0, found .1, ap₂ (λ (i j : ℕ). j * rows s + i) (found .2) (found .3) ∙ div-add-mod' c (rows s));
@@ -77,30 +98,19 @@ module _ (s : Shape) (w : WellFormed s) where
           h .once j k lj lk (sym (row-of j lj) ∙ ap (λ (c : ℕ). c % rows s) same ∙ row-of k lk) (sym (column-of j lj) ∙ ap (λ (c : ℕ). c / rows s) same ∙ column-of k lk);
     }
 
-    walks : Walks s q l
-    unfolding sumOver parityCell
-    walks = record {
-      level = h .level;
-      right = h .right;
-      parity = h .parity ∙ ap (λ (x : Equation). cellNumber s (x .row) (x .column)) (sym is);
-      lies = record { few = h .few; low = h .low′; column = h .column; step = h .step; inside = λ k lk. (h .in-row k lk, in-column k) };
-      summed = lists .passes;
-      sum = xors-listed (cells s) (sumsCell s q) (l .count) (lineCell s l) lists;
-    }
+    walks : Tracked s q l
+    walks = record { some = h .some; few = h .few; column = h .column; step = h .step; in-row = h .in-row; in-column = in-column; lists = lists }
 
   -- ---- lines that fall: row k holds cell k
 
   module _ (e : Equation) (count column step : ℕ) where
-    falling : e .row < rows s → e .column < columns s → count ≤ 30 → count ≤ rows s → column < s .p → step < s .p
+    falling : 1 ≤ count → count ≤ 30 → count ≤ rows s → column < s .p → step < s .p
         → ((k : ℕ) → k < count → e .sums k ((column + step * k) % s .p) ≡ true)
         → ((i j : ℕ) → i < rows s → j < columns s → e .sums i j ≡ true → (i < count) × ((column + step * i) % s .p ≡ j))
-        → Through s e (fallen e count column step)
-    falling level right few short lc ls pass every = record {
-      parity = refl;
-      level = level;
-      right = right;
+        → Through s e (fallen count column step)
+    falling some few short lc ls pass every = record {
+      some = some;
       few = few;
-      low′ = omega arith;
       column = lc;
       step = ls;
       in-row = λ k lk. omega arith;
@@ -115,17 +125,14 @@ module _ (s : Shape) (w : WellFormed s) where
   -- ---- lines along a row
 
   module _ (e : Equation) (count r column : ℕ) where
-    along : e .row < rows s → e .column < columns s → count ≤ 30 → r < rows s → r ≤ 31 → column < s .p
+    along : 1 ≤ count → count ≤ 30 → r < rows s → column < s .p
         → ((k : ℕ) → k < count → e .sums r ((column + 1 * k) % s .p) ≡ true)
         → ((i j : ℕ) → i < rows s → j < columns s → e .sums i j ≡ true → (k : ℕ) × (k < count) × (i ≡ r) × ((column + 1 * k) % s .p ≡ j))
         → ((j k : ℕ) → j < count → k < count → (column + 1 * j) % s .p ≡ (column + 1 * k) % s .p → j ≡ k)
-        → Through s e (flat e count r column)
-    along level right few lr hr lc pass every one = record {
-      parity = refl;
-      level = level;
-      right = right;
+        → Through s e (flat count r column)
+    along some few lr lc pass every one = record {
+      some = some;
       few = few;
-      low′ = omega arith;
       column = lc;
       step = omega (arith, low s w);
       in-row = λ k lk. omega arith;
@@ -155,11 +162,11 @@ module _ (s : Shape) (w : WellFormed s) where
     pub rdp-diagonal-is : (q : ℕ) → s .p - 1 ≤ q → equation s q ≡ rdpDiagonal (s .p) (q - (s .p - 1))
     rdp-diagonal-is = second-of s (rdp (s .p)) (rdp-is s is-rdp)
 
-    pub rdp-row : (q : ℕ) → q < s .p - 1 → Walks s q (flat (rdpRow (s .p) q) (s .p - 1) q 0)
+    pub rdp-row : (q : ℕ) → q < s .p - 1 → Tracked s q (flat (s .p - 1) q 0)
     rdp-row q l =
         walks q (rdpRow (s .p) q) _ (rdp-row-is q l)
         (along (rdpRow (s .p) q) (s .p - 1) q 0
-        (omega (arith, rdp-rows)) (omega (arith, rdp-columns)) (omega (arith, high s w)) (omega (arith, rdp-rows)) (omega (arith, high s w)) (omega (arith, low s w))
+        (omega (arith, low s w)) (omega (arith, high s w)) (omega (arith, rdp-rows)) (omega (arith, low s w))
         (λ k lk. and-both (eq-eqb q q refl) (lt-ltb ((0 + 1 * k) % s .p) (s .p - 1) (subst (λ (n : ℕ). n < s .p - 1) (sym (column-is k lk)) lk)))
         (λ i j li lj p.
         let lj′ : j < s .p - 1 = ltb-true j (s .p - 1) (and-right (eqb i q) (ltb j (s .p - 1)) p) in
@@ -180,11 +187,11 @@ module _ (s : Shape) (w : WellFormed s) where
         whole = omega (arith, steps-back (s .p) i (let pos : 0 < s .p = omega (arith, low s w) in pos))
 
     pub rdp-diagonal : (q : ℕ) → s .p - 1 ≤ q → q < equations s
-        → Walks s q (fallen (rdpDiagonal (s .p) (q - (s .p - 1))) (s .p - 1) (q - (s .p - 1)) (s .p - 1))
+        → Tracked s q (fallen (s .p - 1) (q - (s .p - 1)) (s .p - 1))
     rdp-diagonal q lo hi =
         walks q (rdpDiagonal (s .p) d) _ (rdp-diagonal-is q lo)
         (falling (rdpDiagonal (s .p) d) (s .p - 1) d (s .p - 1)
-        (omega (arith, d-small, rdp-rows)) (omega (arith, rdp-columns)) (omega (arith, high s w)) (omega (arith, rdp-rows)) (omega (arith, d-small)) (omega (arith, low s w))
+        (omega (arith, low s w)) (omega (arith, high s w)) (omega (arith, rdp-rows)) (omega (arith, d-small)) (omega (arith, low s w))
         (λ k lk.
         and-both (lt-ltb ((d + (s .p - 1) * k) % s .p) (s .p) (mod-lt (d + (s .p - 1) * k) pos))
         (and-both (lt-ltb k (s .p - 1) lk) (eq-eqb ((k + (d + (s .p - 1) * k) % s .p) % s .p) d (on k))))
@@ -213,18 +220,16 @@ module _ (s : Shape) (w : WellFormed s) where
 
     -- what a row sums, column after column
     pub rdp-row-sum : (q : ℕ) → q < s .p - 1 → (f : ℕ → ℕ) → sumOver s q f ≡ xors (s .p - 1) (λ j. f (cellNumber s q j))
-    unfolding lineCell
     rdp-row-sum q l f =
-        rdp-row q l .sum f
+        track-sum s q _ (rdp-row q l) f
         ∙ xors-same (s .p - 1) (λ j. f (cellNumber s (q + 0 * j) ((0 + 1 * j) % s .p))) (λ j. f (cellNumber s q j))
         (λ j lj. ap f (ap₂ (cellNumber s) (let same : q + 0 * j ≡ q = omega arith in same) (ap (λ (n : ℕ). n % s .p) (let same : 0 + 1 * j ≡ j = omega arith in same) ∙ mod-eq-of-lt (omega arith))))
 
     -- what diagonal d sums, row after row: the cell of each row that is on it
     pub rdp-diagonal-sum : (d : ℕ) → d < s .p - 1 → (column : ℕ → ℕ) → ((i : ℕ) → i < s .p - 1 → (column i < s .p) × ((i + column i) % s .p ≡ d))
         → (f : ℕ → ℕ) → sumOver s (s .p - 1 + d) f ≡ xors (s .p - 1) (λ i. f (cellNumber s i (column i)))
-    unfolding lineCell
     rdp-diagonal-sum d l column on f =
-        rdp-diagonal (s .p - 1 + d) (omega arith) (omega (arith, rdp-n)) .sum f
+        track-sum s (s .p - 1 + d) _ (rdp-diagonal (s .p - 1 + d) (omega arith) (omega (arith, rdp-n))) f
         ∙ xors-same (s .p - 1) (λ i. f (cellNumber s (0 + 1 * i) ((s .p - 1 + d - (s .p - 1) + (s .p - 1) * i) % s .p))) (λ i. f (cellNumber s i (column i)))
         (λ i li. ap f (ap₂ (cellNumber s) (let same : 0 + 1 * i ≡ i = omega arith in same)
         (ap (λ (n : ℕ). (n + (s .p - 1) * i) % s .p) (let same : s .p - 1 + d - (s .p - 1) ≡ d = omega arith in same) ∙ rdp-back d i (column i) (on i li .0) (on i li .1))))
@@ -294,11 +299,11 @@ module _ (s : Shape) (w : WellFormed s) where
           (λ e. absurd (n (sym (forth j lj) ∙ ap (λ (k : ℕ). (column + 1 * k) % s .p) (e ∙ sym last) ∙ forth (r + 1) (omega arith))))
           (λ e. let small = mod-lt (j + y) pos in omega arith)
 
-      hcode-row′ : equation s r ≡ hcodeRow (s .p) r → Walks s r (flat (hcodeRow (s .p) r) (s .p - 1) r column)
+      hcode-row′ : equation s r ≡ hcodeRow (s .p) r → Tracked s r (flat (s .p - 1) r column)
       hcode-row′ is =
           walks r (hcodeRow (s .p) r) _ is
           (along (hcodeRow (s .p) r) (s .p - 1) r column
-          (omega (arith, hcode-rows)) (omega (arith, hcode-columns)) (omega (arith, high s w)) (omega (arith, hcode-rows)) (omega (arith, high s w)) column-small
+          (omega (arith, low s w)) (omega (arith, high s w)) (omega (arith, hcode-rows)) column-small
           (λ k lk. and-both (eq-eqb r r refl) (and-both (lt-ltb ((column + 1 * k) % s .p) (s .p) (inside k)) (ap not (ne-eqb ((column + 1 * k) % s .p) (r + 1) (misses k lk)))))
           (λ i j li lj p.
           let rest = and-right (eqb i r) (ltb j (s .p) && not (eqb j (r + 1))) p in
@@ -307,12 +312,12 @@ module _ (s : Shape) (w : WellFormed s) where
           ((j + y) % s .p, ends j lj′ other, eqb-true i r (and-left (eqb i r) (ltb j (s .p) && not (eqb j (r + 1))) p), forth j lj′))
           (λ j k lj lk c. sym (back j (omega arith)) ∙ ap (λ (n : ℕ). (n + y) % s .p) c ∙ back k (omega arith)))
 
-      hcode-anti′ : (q : ℕ) → equation s q ≡ hcodeAntiDiagonal (s .p) r → Walks s q (fallen (hcodeAntiDiagonal (s .p) r) (s .p - 1) column 1)
+      hcode-anti′ : (q : ℕ) → equation s q ≡ hcodeAntiDiagonal (s .p) r → Tracked s q (fallen (s .p - 1) column 1)
       unfolding y
       hcode-anti′ q is =
           walks q (hcodeAntiDiagonal (s .p) r) _ is
           (falling (hcodeAntiDiagonal (s .p) r) (s .p - 1) column 1
-          (omega (arith, hcode-rows)) (omega (arith, hcode-columns)) (omega (arith, high s w)) (omega (arith, hcode-rows)) column-small (omega (arith, low s w))
+          (omega (arith, low s w)) (omega (arith, high s w)) (omega (arith, hcode-rows)) column-small (omega (arith, low s w))
           (λ k lk.
           and-both (lt-ltb ((column + 1 * k) % s .p) (s .p) (inside k))
           (and-both (ap not (ne-eqb ((column + 1 * k) % s .p) (r + 1) (misses k lk)))
@@ -323,11 +328,11 @@ module _ (s : Shape) (w : WellFormed s) where
           (and-right (not (eqb j (r + 1))) (eqb i ((s .p - 2 - r + j) % s .p)) (and-right (ltb j (s .p)) (not (eqb j (r + 1)) && eqb i ((s .p - 2 - r + j) % s .p)) p)) in
           (omega (arith, hcode-rows), ap (λ (n : ℕ). (column + 1 * n) % s .p) (at ∙ ap (λ (n : ℕ). n % s .p) (add-comm (s .p - 2 - r) j)) ∙ forth j lj′)))
 
-    pub hcode-row : (q column : ℕ) → q < s .p - 1 → column ≡ (q + 2) % s .p → Walks s q (flat (hcodeRow (s .p) q) (s .p - 1) q column)
+    pub hcode-row : (q column : ℕ) → q < s .p - 1 → column ≡ (q + 2) % s .p → Tracked s q (flat (s .p - 1) q column)
     hcode-row q column l starts = hcode-row′ q l column starts (hcode-row-is q l)
 
     pub hcode-anti : (q column : ℕ) → s .p - 1 ≤ q → q < equations s → column ≡ (q - (s .p - 1) + 2) % s .p
-        → Walks s q (fallen (hcodeAntiDiagonal (s .p) (q - (s .p - 1))) (s .p - 1) column 1)
+        → Tracked s q (fallen (s .p - 1) column 1)
     hcode-anti q column lo hi starts = hcode-anti′ (q - (s .p - 1)) (omega (arith, hcode-n)) column starts q (hcode-anti-is q lo)
 
   -- ---- X-Code
@@ -350,12 +355,12 @@ module _ (s : Shape) (w : WellFormed s) where
 
     -- a family of X-Code: in row k below p - 2 it sums the cell of one column
     family : (q c row column step : ℕ) (at : ℕ → ℕ) → equation s q ≡ record { row = row; column = c; sums = λ k j. ltb k (s .p - 2) && eqb j (at k) }
-        → row < s .p → c < s .p → column < s .p → step < s .p → ((k : ℕ) → k < s .p - 2 → (column + step * k) % s .p ≡ at k)
-        → Walks s q (fallen (record { row = row; column = c; sums = λ k j. ltb k (s .p - 2) && eqb j (at k) }) (s .p - 2) column step)
-    family q c row column step at is lr lc′ lc ls goes =
+        → column < s .p → step < s .p → ((k : ℕ) → k < s .p - 2 → (column + step * k) % s .p ≡ at k)
+        → Tracked s q (fallen (s .p - 2) column step)
+    family q c row column step at is lc ls goes =
         walks q e _ is
         (falling e (s .p - 2) column step
-        (omega (arith, xcode-rows)) (omega (arith, xcode-columns)) (omega (arith, high s w)) (omega (arith, xcode-rows)) lc ls
+        (omega (arith, low s w)) (omega (arith, high s w)) (omega (arith, xcode-rows)) lc ls
         (λ k lk. and-both (lt-ltb k (s .p - 2) lk) (eq-eqb ((column + step * k) % s .p) (at k) (goes k lk)))
         (λ i j li lj p.
         let small : i < s .p - 2 = ltb-true i (s .p - 2) (and-left (ltb i (s .p - 2)) (eqb j (at i)) p) in
@@ -364,9 +369,9 @@ module _ (s : Shape) (w : WellFormed s) where
         e : Equation
         e = record { row = row; column = c; sums = λ k j. ltb k (s .p - 2) && eqb j (at k) }
 
-    pub xcode-first : (q column : ℕ) → q < s .p → column ≡ (q + 2) % s .p → Walks s q (fallen (xcodeFirst (s .p) q) (s .p - 2) column 1)
+    pub xcode-first : (q column : ℕ) → q < s .p → column ≡ (q + 2) % s .p → Tracked s q (fallen (s .p - 2) column 1)
     xcode-first q column l starts =
-        family q q (s .p - 2) column 1 (λ k. (q + k + 2) % s .p) (xcode-first-is q l) (omega arith) l
+        family q q (s .p - 2) column 1 (λ k. (q + k + 2) % s .p) (xcode-first-is q l)
         (subst (λ (n : ℕ). n < s .p) (sym starts) (mod-lt (q + 2) (omega arith))) (omega (arith, low s w))
         (λ k lk. ap (λ (n : ℕ). (n + 1 * k) % s .p) starts ∙ mod-add-mod (q + 2) (s .p) (1 * k) ∙ ap (λ (n : ℕ). n % s .p) (same k))
       where
@@ -374,9 +379,9 @@ module _ (s : Shape) (w : WellFormed s) where
         same k = omega arith
 
     pub xcode-second : (q column : ℕ) → s .p ≤ q → q < equations s → column ≡ (q - s .p + (s .p - 2)) % s .p
-        → Walks s q (fallen (xcodeSecond (s .p) (q - s .p)) (s .p - 2) column (s .p - 1))
+        → Tracked s q (fallen (s .p - 2) column (s .p - 1))
     xcode-second q column lo hi starts =
-        family q c (s .p - 1) column (s .p - 1) (λ k. (s .p + c - k - 2) % s .p) (xcode-second-is q lo) (omega (arith, pos)) (omega (arith, xcode-n))
+        family q c (s .p - 1) column (s .p - 1) (λ k. (s .p + c - k - 2) % s .p) (xcode-second-is q lo)
         (subst (λ (n : ℕ). n < s .p) (sym starts) (mod-lt (c + (s .p - 2)) pos)) (omega (arith, pos))
         (λ k lk. ap (λ (n : ℕ). (n + (s .p - 1) * k) % s .p) starts ∙ mod-add-mod (c + (s .p - 2)) (s .p) ((s .p - 1) * k)
         ∙ ap (λ (n : ℕ). n % s .p) (same k lk) ∙ turns (s .p) k (s .p + c - k - 2))

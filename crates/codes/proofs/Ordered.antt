@@ -10,6 +10,7 @@ use Rattle.xor.specs.Sets.{any}
 use Rattle.xor.proofs.Cases.{by-less, clash, and-left, and-right, and-both, not-passed}
 use Rattle.xor.proofs.Sets.{neither-left, neither-right, any-none}
 use Rattle.codes.specs.declared.Shape.{Shape}
+use Rattle.codes.specs.declared.Width.the-variants.{Full}
 use Rattle.codes.specs.Equations.{Equation, codeOf, equation}
 use Rattle.codes.specs.Shape.{lastCode, listed, rows, columns, equations, cells, WellFormed}
 use Rattle.codes.specs.Encoded.{parityCell, sumsCell}
@@ -30,7 +31,7 @@ wrong s r = let e = equation s r in not (ltb (e .row) (rows s) && ltb (e .column
 
 -- the test of a code at a prime
 disordered : (code p : ℕ) → Bool
-disordered code p = let s : Shape = record { code = code; p = p; cell = 1 } in any (equations s) (wrong s)
+disordered code p = let s : Shape = record { code = code; p = p; cell = 1; width = Full } in any (equations s) (wrong s)
 
 in-order : (code : ℕ) → 1 ≤ code → code ≤ lastCode → (p : ℕ) → listed p ≡ true → disordered code p ≡ false
 unfolding disordered wrong astray any equations rows columns equation
@@ -108,7 +109,7 @@ module _ (s : Shape) (w : WellFormed s) where
 
   after-high : (r : ℕ) → rows s ≤ after s r
   unfolding rows
-  after-high r = each-code (λ n. let t : Shape = record { code = n; p = s .p; cell = s .cell } in codeOf t .rows ≤ after t r) (omega arith) (omega arith) (omega arith) (s .code) (w .codeLow) (w .codeHigh)
+  after-high r = each-code (λ n. let t : Shape = record { code = n; p = s .p; cell = s .cell; width = s .width } in codeOf t .rows ≤ after t r) (omega arith) (omega arith) (omega arith) (s .code) (w .codeLow) (w .codeHigh)
 
   pub ordered : Ordered s
   unfolding parityCell

@@ -11,7 +11,7 @@ use Rattle.xor.proofs.Sums.{xors-same, xors-bits}
 use Rattle.codes.specs.declared.Shape.{Shape}
 use Rattle.codes.specs.Shape.{cells, stripeLength, WellFormed}
 use Rattle.codes.specs.Encoded.{sumsCell, sumOver, byteAt}
-use Rattle.codes.proofs.Geometry.{place-all}
+use Rattle.codes.proofs.Geometry.{place-all, byte-there}
 
 module _ (s : Shape) (q : ℕ) where
   -- equal in the cells that equation q sums
@@ -29,8 +29,7 @@ module _ (s : Shape) (q : ℕ) where
 -- stripes that agree in every byte of every cell are equal
 pub same-bytes : (s : Shape) → WellFormed s → (a b : List ℕ) → length a ≡ stripeLength s → length b ≡ stripeLength s
     → ((c : ℕ) → c < cells s → (t : ℕ) → t < s .cell → byteAt s a c t ≡ byteAt s b c t) → a ≡ b
-unfolding byteAt
 same-bytes s w a b la lb h =
     ext-getD 0 a b (la ∙ sym lb)
     (λ i l. let of = place-all s w i (subst (λ (m : ℕ). i < m) la l) in
-    ap (λ (k : ℕ). getD a k 0) (of .4) ∙ h (of .0) (of .1) (of .2) (of .3) ∙ sym (ap (λ (k : ℕ). getD b k 0) (of .4)))
+    ap (λ (k : ℕ). getD a k 0) (of .5) ∙ sym (byte-there s w a (of .0) (of .3) (of .2)) ∙ h (of .0) (of .1) (of .3) (of .4) ∙ byte-there s w b (of .0) (of .3) (of .2) ∙ sym (ap (λ (k : ℕ). getD b k 0) (of .5)))

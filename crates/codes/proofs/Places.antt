@@ -5,13 +5,13 @@ use native.Mathlib.Nat.{mul-le-mul-right, add-mul, one-mul}
 use native.Mathlib.Omega.{arith}
 use Rattle.xor.proofs.Cases.{by-less}
 use Rattle.codes.specs.declared.Shape.{Shape}
-use Rattle.codes.specs.Shape.{cells, stripeLength, WellFormed}
+use Rattle.codes.specs.Shape.{existing, stripeLength, WellFormed}
 
 module _ (s : Shape) (w : WellFormed s) where
   -- a cell of the stripe ends inside it
-  pub cell-ends : (c : ℕ) → c < cells s → c * s .cell + s .cell ≤ stripeLength s
+  pub cell-ends : (c : ℕ) → c < existing s → c * s .cell + s .cell ≤ stripeLength s
   unfolding stripeLength
-  cell-ends c l = omega (arith, mul-le-mul-right {m = 1 + c} {n = cells s} (s .cell) (omega arith), add-mul 1 c (s .cell), one-mul (s .cell))
+  cell-ends c l = omega (arith, mul-le-mul-right {m = 1 + c} {n = existing s} (s .cell) (omega arith), add-mul 1 c (s .cell), one-mul (s .cell))
 
   -- two different cells do not meet
   pub cells-apart : (c d : ℕ) → c ≢ d → (c * s .cell + s .cell ≤ d * s .cell) ⊎ (d * s .cell + s .cell ≤ c * s .cell)

@@ -12,12 +12,12 @@ use Rattle.xor.specs.Sets.{any}
 use Rattle.xor.proofs.Cases.{by-test}
 use Rattle.xor.proofs.Sets.{any-none, none-any}
 use Rattle.codes.specs.declared.Shape.{Shape}
-use Rattle.codes.specs.Shape.{rows, columns, cells, stripeLength, WellFormed}
+use Rattle.codes.specs.Shape.{rows, disks, existing, stripeLength, WellFormed}
 use Rattle.codes.specs.Geometry.{columnOf, cellAt}
 use Rattle.codes.specs.Encoded.{isParity}
 use Rattle.codes.specs.Refusals.{fault, outside, otherLength, order, refusal, codeFaults, sizeFaults, shapeFaults, stripeFaults, writeFaults, cellsFaults, columnsFaults}
 use Rattle.codes.specs.Depends.{WriteRight}
-use Rattle.codes.proofs.Geometry.{column-there}
+use Rattle.codes.proofs.Geometry.{column-there, is-there}
 use Rattle.codes.proofs.Order.{None, Gives, After, after, alone, gives, none-of}
 
 -- ---- a shape
@@ -49,6 +49,7 @@ module _ (s : Shape) where
         prime = not-false _ (m .1 .1 .0);
         cellLow = omega (arith, eqb-false (s .cell) 0 (n .0));
         cellHigh = ltb-false 4096 (s .cell) (n .1 .0);
+        wide = m .1 .1 .1 .0;
       }
 
   -- a shape that is not refused is well formed
@@ -70,22 +71,23 @@ module _ (s : Shape) (bytes : ℕ) where
 
 module _ (s : Shape) (bytes row column new : ℕ) where
   pub write-after : After (stripeFaults s bytes)
-      (outside row (rows s) ∷ outside column (columns s) ∷ fault 7 (isParity s (cellAt s row column)) ∷ fault 8 (not (eqb new (s .cell))) ∷ [])
+      (outside row (rows s) ∷ outside column (disks s) ∷ fault 7 (isParity s (cellAt s row column)) ∷ fault 8 (not (eqb new (s .cell))) ∷ [])
       (writeFaults s bytes row column new)
   unfolding writeFaults stripeFaults shapeFaults order
   write-after = after (stripeFaults s bytes) _ refl refl
 
   -- a small write that is not refused is right
-  pub write-accepted : refusal (writeFaults s bytes row column new) ≡ 0 → (column < columns s) × WriteRight s bytes row (columnOf s column) new
+  pub write-accepted : refusal (writeFaults s bytes row column new) ≡ 0 → (column < disks s) × WriteRight s bytes row (columnOf s column) new
   write-accepted none =
       let n = write-after .none none in
       let formed = accepted s bytes (n .0) in
-      let inside = leb-false (columns s) column (n .1 .1 .0) in (
+      let inside = leb-false (disks s) column (n .1 .1 .0) in (
         inside,
         record {
           formed = formed .0;
           long = formed .1;
-          cell = record { low = leb-false (rows s) row (n .1 .0); right = column-there s column inside; plain = n .1 .1 .1 .0 };
+          cell = record { low = leb-false (rows s) row (n .1 .0); right = column-there s (formed .0) column inside; plain = n .1 .1 .1 .0 };
+          there = is-there s (formed .0) column;
           whole = eqb-true new (s .cell) (not-false _ (n .1 .1 .1 .1 .0));
         },
       )
@@ -110,23 +112,23 @@ module _ (numbers : List ℕ) (n : ℕ) where
   none-out all = none-any (length numbers) (λ k. leb n (getD numbers k 0)) (λ k l. lt-leb n (getD numbers k 0) (all k l))
 
 module _ (s : Shape) (bytes : ℕ) (numbers : List ℕ) where
-  pub cells-after : After (stripeFaults s bytes) (fault 6 (someOut numbers (cells s)) ∷ []) (cellsFaults s bytes numbers)
+  pub cells-after : After (stripeFaults s bytes) (fault 6 (someOut numbers (existing s)) ∷ []) (cellsFaults s bytes numbers)
   unfolding cellsFaults stripeFaults shapeFaults order
   cells-after = after (stripeFaults s bytes) _ refl refl
 
-  pub cells-accepted : refusal (cellsFaults s bytes numbers) ≡ 0 → WellFormed s × (bytes ≡ stripeLength s) × AllBelow numbers (cells s)
+  pub cells-accepted : refusal (cellsFaults s bytes numbers) ≡ 0 → WellFormed s × (bytes ≡ stripeLength s) × AllBelow numbers (existing s)
   cells-accepted none =
       let n = cells-after .none none in
       let formed = accepted s bytes (n .0) in
-      (formed .0, formed .1, all-in numbers (cells s) (n .1 .0))
+      (formed .0, formed .1, all-in numbers (existing s) (n .1 .0))
 
 module _ (s : Shape) (bytes a b : ℕ) where
-  pub columns-after : After (stripeFaults s bytes) (outside a (columns s) ∷ outside b (columns s) ∷ []) (columnsFaults s bytes a b)
+  pub columns-after : After (stripeFaults s bytes) (outside a (disks s) ∷ outside b (disks s) ∷ []) (columnsFaults s bytes a b)
   unfolding columnsFaults stripeFaults shapeFaults order
   columns-after = after (stripeFaults s bytes) _ refl refl
 
-  pub columns-accepted : refusal (columnsFaults s bytes a b) ≡ 0 → WellFormed s × (bytes ≡ stripeLength s) × (a < columns s) × (b < columns s)
+  pub columns-accepted : refusal (columnsFaults s bytes a b) ≡ 0 → WellFormed s × (bytes ≡ stripeLength s) × (a < disks s) × (b < disks s)
   columns-accepted none =
       let n = columns-after .none none in
       let formed = accepted s bytes (n .0) in
-      (formed .0, formed .1, leb-false (columns s) a (n .1 .0), leb-false (columns s) b (n .1 .1 .0))
+      (formed .0, formed .1, leb-false (disks s) a (n .1 .0), leb-false (disks s) b (n .1 .1 .0))

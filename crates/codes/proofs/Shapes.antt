@@ -1,16 +1,18 @@
 -- Laws of the shape: the ten primes and the three codes, one after the other; what is small.
 use mathlib.Core.Path.{_≡_, refl, sym, ap, ap₂, _∙_, subst}
 use mathlib.Core.Logic.{_≢_, _⊎_, inl, inr, ⊎-elim}
-use mathlib.Core.Bool.{true, false}
+use mathlib.Core.Bool.{true, false, not, _||_}
 use Prim.Native.Nat.{ℕ, _+_, _-_, _*_, _≤_, _<_}
-use native.Mathlib.Nat.{mul-le-mul}
+use native.Mathlib.Nat.{mul-le-mul, mul-le-mul-right}
 use native.Mathlib.Omega.{arith}
-use lib.Dec.{eqb}
-use borrow.Author.Tests.{eqb-true, lt-ltb, le-ltb}
-use Rattle.xor.proofs.Cases.{by-equal, either, not-passed}
+use lib.Dec.{eqb, leb}
+use borrow.Author.Tests.{eqb-true, eq-eqb, ne-eqb, lt-ltb, le-ltb, le-leb}
+use Rattle.xor.proofs.Cases.{by-equal, by-less, either, clash, or-left, or-right, not-passed}
 use Rattle.codes.specs.declared.Shape.{Shape}
 use Rattle.codes.specs.Equations.{Equation, Code, rdp, hcode, xcode, codeOf, equation}
-use Rattle.codes.specs.Shape.{lastCode, listed, mostCell, rows, columns, equations, cells, stripeLength, WellFormed}
+use Rattle.codes.specs.declared.Width.{Width}
+use Rattle.codes.specs.declared.Width.the-variants.{Full, Data}
+use Rattle.codes.specs.Shape.{lastCode, listed, mostCell, rows, columns, equations, cells, without, missing, wrongData, disks, existing, stripeLength, WellFormed}
 
 -- what holds of each of the ten primes holds of a listed number
 pub each-prime : (P : ℕ → Type 0) → P 3 → P 5 → P 7 → P 11 → P 13 → P 17 → P 19 → P 23 → P 29 → P 31 → (p : ℕ) → listed p ≡ true → P p
@@ -64,7 +66,7 @@ each-code P x1 x2 x3 code lo hi =
 
 -- what holds of RDP, of H-Code and of X-Code at the stripe's prime holds of the stripe's code
 pub of-code : (P : Code → Type 0) (s : Shape) → WellFormed s → P (rdp (s .p)) → P (hcode (s .p)) → P (xcode (s .p)) → P (codeOf s)
-of-code P s w x1 x2 x3 = each-code (λ n. P (codeOf (record { code = n; p = s .p; cell = s .cell }))) x1 x2 x3 (s .code) (w .codeLow) (w .codeHigh)
+of-code P s w x1 x2 x3 = each-code (λ n. P (codeOf (record { code = n; p = s .p; cell = s .cell; width = s .width }))) x1 x2 x3 (s .code) (w .codeLow) (w .codeHigh)
 
 -- a fact that is shown for each code by itself
 pub by-code : {A : Type 0} (s : Shape) → WellFormed s → (s .code ≡ 1 → A) → (s .code ≡ 2 → A) → (s .code ≡ 3 → A) → A
@@ -134,7 +136,15 @@ module _ (s : Shape) where
   unfolding cells
   cells-of a b p q = ap₂ _*_ p q
 
-  pub length-of : (n : ℕ) → n ≡ cells s → n * s .cell ≡ stripeLength s
+  pub disks-of : (a b : ℕ) → a ≡ columns s → b ≡ missing s → a - b ≡ disks s
+  unfolding disks
+  disks-of a b p q = ap₂ _-_ p q
+
+  pub existing-of : (a b : ℕ) → a ≡ disks s → b ≡ rows s → a * b ≡ existing s
+  unfolding existing
+  existing-of a b p q = ap₂ _*_ p q
+
+  pub length-of : (n : ℕ) → n ≡ existing s → n * s .cell ≡ stripeLength s
   unfolding stripeLength
   length-of n e = ap (λ (k : ℕ). k * s .cell) e
 
@@ -155,6 +165,41 @@ mostCells = 961
 
 abbrev pub mostBytes : ℕ
 mostBytes = mostCells * mostCell
+
+-- where the number of data columns is right, one of them exists at least, and only of RDP some need not
+few-missing : (code p : ℕ) (width : Width) → 3 ≤ p → wrongData code p width ≡ false → without p width + 2 ≤ p
+few-missing code p Full lo h = omega arith
+few-missing code p (Data m) lo h =
+    by-equal code 1
+    (λ e. by-equal m 0 (λ z. clash (or-right (not (eqb code 1)) (or-left (leb p m) (eq-eqb m 0 z))) h) (λ n. omega arith))
+    (λ n. clash (or-left (eqb m 0 || leb p m) (ap not (ne-eqb code 1 n))) h)
+
+none-missing : (code p : ℕ) (width : Width) → code ≢ 1 → wrongData code p width ≡ false → without p width ≡ 0
+none-missing code p Full n h = refl
+none-missing code p (Data m) n h = clash (or-left (eqb m 0 || leb p m) (ap not (ne-eqb code 1 n))) h
+
+-- the same, as the code tells them
+module _ (code p m : ℕ) (width : Width) (is : width ≡ Data m) where
+  pub wrong-code : code ≢ 1 → true ≡ wrongData code p width
+  wrong-code n = rw is (sym (or-left (eqb m 0 || leb p m) (ap not (ne-eqb code 1 n))))
+
+  pub wrong-none : code ≡ 1 → m ≡ 0 → true ≡ wrongData code p width
+  wrong-none e z = rw is (sym (or-right (not (eqb code 1)) (or-left (leb p m) (eq-eqb m 0 z))))
+
+  pub wrong-most : code ≡ 1 → m ≢ 0 → leb p m ≡ wrongData code p width
+  wrong-most e n = rw (is, eq-eqb code 1 e, ne-eqb m 0 n) refl
+
+  pub not-most : wrongData code p width ≡ false → m < p
+  not-most h = by-less m p (λ l. l) (λ l. clash (or-right (not (eqb code 1)) (or-right (eqb m 0) (le-leb p m l))) (sym (ap (wrongData code p) is) ∙ h))
+
+module _ (s : Shape) where
+  pub full-missing : s .width ≡ Full → 0 ≡ missing s
+  unfolding missing
+  full-missing e = rw e refl
+
+  pub data-missing : (m : ℕ) → s .width ≡ Data m → s .p - 1 - m ≡ missing s
+  unfolding missing
+  data-missing m e = rw e refl
 
 -- what the stripes of a code keep to
 record Sized (p : ℕ) (c : Code) : Type 0 where
@@ -223,9 +268,29 @@ module _ (s : Shape) (w : WellFormed s) where
   unfolding cells rows columns
   cells-high = sized .cells-high
 
+  -- a data column at least exists, and only of RDP some need not
+  pub missing-low : missing s + 2 ≤ s .p
+  unfolding missing
+  missing-low = few-missing (s .code) (s .p) (s .width) low (w .wide)
+
+  pub missing-other : s .code ≢ 1 → missing s ≡ 0
+  unfolding missing
+  missing-other n = none-missing (s .code) (s .p) (s .width) n (w .wide)
+
+  pub disks-is : disks s + missing s ≡ columns s
+  unfolding disks
+  disks-is = omega (arith, missing-low, few-columns)
+
+  pub disks-high : disks s ≤ columns s
+  disks-high = omega (arith, disks-is)
+
+  pub existing-high : existing s ≤ cells s
+  unfolding existing cells
+  existing-high = mul-le-mul-right {m = disks s} {n = columns s} (rows s) disks-high
+
   pub length-high : stripeLength s ≤ mostBytes
   unfolding stripeLength
-  length-high = mul-le-mul cells-high (w .cellHigh)
+  length-high = mul-le-mul (let few : existing s ≤ mostCells = omega (arith, existing-high, cells-high) in few) (w .cellHigh)
 
 -- the product of two numbers of rows or columns
 pub small-product : (a b : ℕ) → a ≤ 32 → b ≤ 32 → a * b ≤ 1024

@@ -7,6 +7,7 @@ use Rattle.xor.specs.Sets.{any}
 use Rattle.bits.specs.Bit.{bit}
 use Rattle.codes.specs.declared.Shape.{Shape}
 use Rattle.codes.specs.Shape.{rows, columns, equations, cellNumber, stripeLength, WellFormed}
+use Rattle.codes.specs.Geometry.{isThere}
 use Rattle.codes.specs.Encoded.{parityCell, isParity, Solves}
 
 -- the cell in a row and a column is in the stripe, and no parity cell
@@ -15,11 +16,12 @@ pub record DataCell (s : Shape) (row column : ℕ) : Type 0 where
   pub right : column < columns s
   pub plain : isParity s (cellNumber s row column) ≡ false
 
--- a small write that can be made: a well-formed stripe of the right length, a data cell by its row and column, and new bytes of a cell's length
+-- a small write that can be made: a well-formed stripe of the right length, a data cell that exists by its row and column, and new bytes of a cell's length
 pub record WriteRight (s : Shape) (bytes row column new : ℕ) : Type 0 where
   pub formed : WellFormed s
   pub long : bytes ≡ stripeLength s
   pub cell : DataCell s row column
+  pub there : isThere s column ≡ true
   pub whole : new ≡ s .cell
 
 -- 1 in cell c and in the parity cells of the equations in m, and 0 elsewhere

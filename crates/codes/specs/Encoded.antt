@@ -1,4 +1,4 @@
--- What "encoded" means of a stripe's bytes: document 01, "Equations".
+-- What "encoded" means of a stripe's bytes: document 01, "Equations"; of a shelf with fewer disks document 02, request 01.
 use mathlib.Core.Path.{_≡_}
 use mathlib.Core.List.{List}
 use mathlib.Core.Bool.{Bool, cond, not}
@@ -9,7 +9,7 @@ use Rattle.xor.specs.Xor.{_⊕_, xors}
 use Rattle.xor.specs.Sets.{any, count}
 use Rattle.codes.specs.declared.Shape.{Shape}
 use Rattle.codes.specs.Shape.{rows, cells, equations, cellNumber}
-use Rattle.codes.specs.Geometry.{place}
+use Rattle.codes.specs.Geometry.{cellThere, place}
 use Rattle.codes.specs.Equations.{equation}
 
 -- the number of the parity cell of equation q
@@ -20,9 +20,9 @@ parityCell s q = cellNumber s (equation s q .row) (equation s q .column)
 unfoldable pub sumsCell : Shape → ℕ → ℕ → Bool
 sumsCell s q c = equation s q .sums (c % rows s) (c / rows s)
 
--- byte t of cell c
+-- byte t of cell c in the stripe with the zero columns put back: a cell that doesn't exist reads as zero
 unfoldable pub byteAt : Shape → List ℕ → ℕ → ℕ → ℕ
-byteAt s stripe c t = getD stripe (place s c + t) 0
+byteAt s stripe c t = cond (cellThere s c) (getD stripe (place s c + t) 0) 0
 
 -- the XOR of f c over the cells c that equation q sums
 unfoldable pub sumOver : Shape → ℕ → (ℕ → ℕ) → ℕ

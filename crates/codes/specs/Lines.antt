@@ -1,43 +1,52 @@
--- How the cells that an equation sums are found one after the other.
+-- How the cells that an equation sums are found one after the other: those of them that exist.
 use mathlib.Core.Path.{_≡_}
 use mathlib.Core.Logic.{_⊎_}
 use mathlib.Core.List.{List}
-use mathlib.Core.Bool.{true}
-use Prim.Native.Nat.{ℕ, _+_, _*_, _%_, _≤_, _<_}
+use mathlib.Core.Bool.{true, false, cond}
+use Prim.Native.Nat.{ℕ, zero, suc, _+_, _-_, _*_, _≤_, _<_}
+use lib.Dec.{eqb, leb}
 use lib.ListN.{length, getD}
 use Rattle.xor.specs.Xor.{xors}
 use Rattle.codes.specs.declared.Shape.{Shape}
 use Rattle.codes.specs.declared.Line.{Line}
 use Rattle.codes.specs.declared.Sources.{Sources}
-use Rattle.codes.specs.Shape.{rows, columns, cellNumber, stripeLength}
-use Rattle.codes.specs.Geometry.{place}
+use Rattle.codes.specs.Shape.{cells, stripeLength}
+use Rattle.codes.specs.Geometry.{cellThere, callersCell, place}
 use Rattle.codes.specs.Encoded.{parityCell, sumsCell, byteAt, sumOver, total, parityByte}
 
--- cell k of a line: its row is row + fall * k, and its column is column + step * k mod p
-unfoldable pub lineCell : Shape → Line → ℕ → ℕ
-lineCell s l k = cellNumber s (l .row + l .fall * k) ((l .column + l .step * k) % s .p)
+-- n, or what it is past a where it is not below a
+unfoldable pub wrap : ℕ → ℕ → ℕ
+wrap a n = cond (leb a n) (n - a) n
 
--- the line is short, and stays inside the stripe
-pub record Lies (s : Shape) (l : Line) : Type 0 where
+-- cell k of a line, by its number as cells lie: each is `step` cells on from the one before, round after `around` of them; cell `turn` starts anew
+unfoldable pub walked : Line → ℕ → ℕ
+walked l zero = l .first
+walked l (suc k) = cond (eqb (suc k) (l .turn)) (l .second) (wrap (l .around) (walked l k + l .step))
+
+-- the line is short, and its cells stay inside a stripe
+pub record Short (l : Line) : Type 0 where
   pub few : l .count ≤ 30
-  pub low : l .row + l .fall * l .count ≤ 62
-  pub column : l .column < s .p
-  pub step : l .step < s .p
-  pub inside : (k : ℕ) → k < l .count → (l .row + l .fall * k < rows s) × ((l .column + l .step * k) % s .p < columns s)
+  pub step : l .step ≤ 1024
+  pub around : l .around ≤ 1024
+  pub first : l .first ≤ 1024
+  pub second : l .second ≤ 1024
+  pub at : (k : ℕ) → k < l .count → walked l k ≤ 1024
 
--- the line has the parity cell of equation q, and goes through the cells that it sums, once through each
+-- the line has the parity cell of equation q, and goes through the cells that it sums and that exist, once through each
 pub record Walks (s : Shape) (q : ℕ) (l : Line) : Type 0 where
-  pub lies : Lies s l
-  pub level : l .level < rows s
-  pub right : l .parity < columns s
-  pub parity : cellNumber s (l .level) (l .parity) ≡ parityCell s q
-  pub summed : (k : ℕ) → k < l .count → sumsCell s q (lineCell s l k) ≡ true
-  pub sum : (f : ℕ → ℕ) → sumOver s q f ≡ xors (l .count) (λ k. f (lineCell s l k))
+  pub short : Short l
+  pub to : l .to ≡ callersCell s (parityCell s q)
+  pub cell : ℕ → ℕ
+  pub inside : (k : ℕ) → k < l .count → cell k < cells s
+  pub there : (k : ℕ) → k < l .count → cellThere s (cell k) ≡ true
+  pub at : (k : ℕ) → k < l .count → walked l k ≡ callersCell s (cell k)
+  pub summed : (k : ℕ) → k < l .count → sumsCell s q (cell k) ≡ true
+  pub sum : (f : ℕ → ℕ) → ((c : ℕ) → cellThere s c ≡ false → f c ≡ 0) → sumOver s q f ≡ xors (l .count) (λ k. f (cell k))
 
--- the places are those of the cells of a line
+-- the places begin with those of the cells of a line
 pub record Placed (s : Shape) (l : Line) (places : List ℕ) : Type 0 where
   pub long : length places ≡ 32
-  pub at : (k : ℕ) → k < l .count → getD places k 0 ≡ place s (lineCell s l k)
+  pub at : (k : ℕ) → k < l .count → getD places k 0 ≡ walked l k * s .cell
 
 -- r has the place of the parity cell of equation q, and `places` begins with the places of the cells that it sums
 pub record Found (s : Shape) (q : ℕ) (r : Sources) (places : List ℕ) : Type 0 where

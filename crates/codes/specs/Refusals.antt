@@ -1,4 +1,4 @@
--- The refusals of every call, and their order: document 01, "Refusal numbers".
+-- The refusals of every call, and their order: document 01, "Refusal numbers", and document 02.
 use mathlib.Core.List.{List, [], _∷_, _++_}
 use mathlib.Core.Bool.{Bool, false, cond, not, _&&_, _||_}
 use Prim.Native.Nat.{ℕ}
@@ -6,7 +6,7 @@ use lib.Dec.{eqb, leb, ltb}
 use lib.ListN.{length, getD}
 use Rattle.xor.specs.Sets.{any}
 use Rattle.codes.specs.declared.Shape.{Shape}
-use Rattle.codes.specs.Shape.{lastCode, listed, mostCell, rows, columns, cells, stripeLength}
+use Rattle.codes.specs.Shape.{lastCode, listed, mostCell, wrongData, rows, disks, existing, stripeLength}
 use Rattle.codes.specs.Geometry.{cellAt}
 use Rattle.codes.specs.Encoded.{isParity}
 
@@ -17,7 +17,7 @@ pub record Fault : Type 0 where
 
 -- the refusal numbers in the order in which they go before each other
 unfoldable pub order : List ℕ
-order = 13 ∷ 1 ∷ 2 ∷ 3 ∷ 4 ∷ 5 ∷ 6 ∷ 7 ∷ 8 ∷ 9 ∷ 10 ∷ 11 ∷ 12 ∷ []
+order = 13 ∷ 1 ∷ 2 ∷ 14 ∷ 3 ∷ 4 ∷ 5 ∷ 6 ∷ 7 ∷ 8 ∷ 9 ∷ 10 ∷ 11 ∷ 12 ∷ []
 
 -- whether refusal n is among the faults and applies
 unfoldable pub applies : List Fault → ℕ → Bool
@@ -37,9 +37,10 @@ refusal faults = firstOf order faults
 abbrev pub fault : ℕ → Bool → Fault
 fault n applies = record { number = n; applies = applies }
 
--- the refusals of a code and a prime
+-- the refusals of a code, a prime and a number of data columns
 abbrev pub codeFaults : Shape → List Fault
-codeFaults s = fault 1 (eqb (s .code) 0) ∷ fault 1 (ltb lastCode (s .code)) ∷ fault 2 (not (listed (s .p))) ∷ []
+codeFaults s =
+    fault 1 (eqb (s .code) 0) ∷ fault 1 (ltb lastCode (s .code)) ∷ fault 2 (not (listed (s .p))) ∷ fault 14 (wrongData (s .code) (s .p) (s .width)) ∷ []
 
 -- the refusals of a cell size
 abbrev pub sizeFaults : Shape → List Fault
@@ -65,12 +66,12 @@ outside n bound = fault 6 (leb bound n)
 unfoldable pub writeFaults : Shape → ℕ → ℕ → ℕ → ℕ → List Fault
 writeFaults s bytes row column new =
     stripeFaults s bytes
-    ++ outside row (rows s) ∷ outside column (columns s) ∷ fault 7 (isParity s (cellAt s row column)) ∷ fault 8 (not (eqb new (s .cell))) ∷ []
+    ++ outside row (rows s) ∷ outside column (disks s) ∷ fault 7 (isParity s (cellAt s row column)) ∷ fault 8 (not (eqb new (s .cell))) ∷ []
 
 -- the refusals of a rebuild of the cells that a list names
 unfoldable pub cellsFaults : Shape → ℕ → List ℕ → List Fault
-cellsFaults s bytes numbers = stripeFaults s bytes ++ fault 6 (any (length numbers) (λ k. leb (cells s) (getD numbers k 0))) ∷ []
+cellsFaults s bytes numbers = stripeFaults s bytes ++ fault 6 (any (length numbers) (λ k. leb (existing s) (getD numbers k 0))) ∷ []
 
 -- the refusals of a rebuild of two columns
 unfoldable pub columnsFaults : Shape → ℕ → ℕ → ℕ → List Fault
-columnsFaults s bytes a b = stripeFaults s bytes ++ outside a (columns s) ∷ outside b (columns s) ∷ []
+columnsFaults s bytes a b = stripeFaults s bytes ++ outside a (disks s) ∷ outside b (disks s) ∷ []

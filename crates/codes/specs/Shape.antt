@@ -1,9 +1,11 @@
--- The shape of a stripe: document 01, "Numbers and the lent stripe".
+-- The shape of a stripe: document 01, "Numbers and the lent stripe", and for RDP with fewer data columns document 02, request 01.
 use mathlib.Core.Path.{_≡_}
-use mathlib.Core.Bool.{Bool, true, _||_}
-use Prim.Native.Nat.{ℕ, _+_, _*_, _≤_}
-use lib.Dec.{eqb}
+use mathlib.Core.Bool.{Bool, true, false, not, _||_}
+use Prim.Native.Nat.{ℕ, _+_, _-_, _*_, _≤_}
+use lib.Dec.{eqb, leb}
 use Rattle.codes.specs.declared.Shape.{Shape}
+use Rattle.codes.specs.declared.Width.{Width}
+use Rattle.codes.specs.declared.Width.the-variants.{Full, Data}
 use Rattle.codes.specs.Equations.{codeOf}
 
 -- codes are numbered from 1 to this
@@ -22,7 +24,7 @@ mostCell = 4096
 unfoldable pub rows : Shape → ℕ
 rows s = codeOf s .rows
 
--- columns of a stripe
+-- columns of a stripe as the equations number them
 unfoldable pub columns : Shape → ℕ
 columns s = codeOf s .columns
 
@@ -30,7 +32,7 @@ columns s = codeOf s .columns
 unfoldable pub equations : Shape → ℕ
 equations s = 2 * codeOf s .size
 
--- cells of a stripe
+-- cells of a stripe as the equations number them
 unfoldable pub cells : Shape → ℕ
 cells s = columns s * rows s
 
@@ -38,14 +40,37 @@ cells s = columns s * rows s
 unfoldable pub cellNumber : Shape → ℕ → ℕ → ℕ
 cellNumber s row column = column * rows s + row
 
+-- how many of the p-1 data columns don't exist: none where their number is not given, and all but m where m is
+abbrev pub without : ℕ → Width → ℕ
+without p Full = 0
+without p (Data m) = p - 1 - m
+
+-- of a stripe
+unfoldable pub missing : Shape → ℕ
+missing s = without (s .p) (s .width)
+
+-- whether a number m of data columns is given that can't be: m outside 1 to p-1, or given for another code than RDP
+abbrev pub wrongData : ℕ → ℕ → Width → Bool
+wrongData code p Full = false
+wrongData code p (Data m) = not (eqb code 1) || (eqb m 0 || leb p m)
+
+-- columns that exist, each on a disk of its own
+unfoldable pub disks : Shape → ℕ
+disks s = columns s - missing s
+
+-- cells that exist
+unfoldable pub existing : Shape → ℕ
+existing s = disks s * rows s
+
 -- the length of a stripe in bytes
 unfoldable pub stripeLength : Shape → ℕ
-stripeLength s = cells s * s .cell
+stripeLength s = existing s * s .cell
 
--- the three numbers are in their ranges
+-- the numbers are in their ranges
 pub record WellFormed (s : Shape) : Type 0 where
   pub codeLow : 1 ≤ s .code
   pub codeHigh : s .code ≤ lastCode
   pub prime : listed (s .p) ≡ true
   pub cellLow : 1 ≤ s .cell
   pub cellHigh : s .cell ≤ mostCell
+  pub wide : wrongData (s .code) (s .p) (s .width) ≡ false

@@ -9,7 +9,7 @@ ghost use Rattle.codes.specs.Lines.{Walks};
 ghost use Rattle.codes.specs.Depends.{DataCell, DependOn};
 ghost use Rattle.codes.specs.Holders.{HeldBy};
 
-// The line of equation q: rows first, then the anti-diagonals.
+// The line of equation q: rows first, then the anti-diagonals. Both start in column r + 2 and go on, column after column.
 pub fn line(shape: Shape, q: usize) -> Line
     requires { ⌜ WellFormed shape × (shape .code ≡ 2) × (q < equations shape) ⌝ }
     ensures { λ r. ⌜ Walks shape q r ⌝ }
@@ -18,24 +18,24 @@ pub fn line(shape: Shape, q: usize) -> Line
     let n = p - 1;
     if q < n {
         return Line {
-            level: q,
-            parity: p,
+            to: p * n + q,
             count: n,
-            row: q,
-            fall: 0,
-            column: crate::turned(q, 2, p),
-            step: 1,
+            first: crate::turned(q, 2, p) * n + q,
+            step: n,
+            around: p * n,
+            turn: 0,
+            second: 0,
         };
     }
     let r = q - n;
     Line {
-        level: r,
-        parity: r + 1,
+        to: (r + 1) * n + r,
         count: n,
-        row: 0,
-        fall: 1,
-        column: crate::turned(r, 2, p),
-        step: 1,
+        first: crate::turned(r, 2, p) * n,
+        step: n + 1,
+        around: p * n,
+        turn: 0,
+        second: 0,
     }
 }
 

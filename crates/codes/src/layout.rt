@@ -1,29 +1,45 @@
-// Where the cells of a stripe lie in the lent buffer. What stands behind these functions is all that knows how columns lie.
+// Where the cells of a stripe lie in the lent buffer. What stands behind these functions, and the lines of the codes, is all that knows how
+// columns lie.
 use crate::Shape;
 ghost use mathlib.Core.Path.{_≡_};
+ghost use mathlib.Core.Bool.{true};
 ghost use Prim.Native.Nat.{_<_};
-ghost use Rattle.codes.specs.Shape.{rows, columns, cells, cellNumber, WellFormed};
-ghost use Rattle.codes.specs.Geometry.{columnOf, liesAt, cellOf, place};
+ghost use Rattle.codes.specs.Shape.{rows, columns, cells, disks, existing, cellNumber, WellFormed};
+ghost use Rattle.codes.specs.Geometry.{gap, isThere, cellThere, columnOf, liesAt, cellOf, place};
+
+// The first column that need not exist: of RDP how many data columns there are.
+pub fn data_columns(shape: Shape) -> usize
+    requires { ⌜ WellFormed shape ⌝ }
+    ensures { λ r. ⌜ r ≡ gap shape ⌝ }
+{
+    shape.p - 1 - crate::missing_count(shape)
+}
 
 // The column, as the equations number it, that lies at place d.
 pub fn column_of(shape: Shape, d: usize) -> usize
-    requires { ⌜ WellFormed shape × (d < columns shape) ⌝ }
+    requires { ⌜ WellFormed shape × (d < disks shape) ⌝ }
     ensures { λ r. ⌜ r ≡ columnOf shape d ⌝ }
 {
-    d
+    if d < data_columns(shape) {
+        return d;
+    }
+    d + crate::missing_count(shape)
 }
 
 // Where column j, as the equations number it, lies.
 pub fn lies_at(shape: Shape, j: usize) -> usize
-    requires { ⌜ WellFormed shape × (j < columns shape) ⌝ }
+    requires { ⌜ WellFormed shape × (j < columns shape) × (isThere shape j ≡ true) ⌝ }
     ensures { λ r. ⌜ r ≡ liesAt shape j ⌝ }
 {
-    j
+    if j < data_columns(shape) {
+        return j;
+    }
+    j - crate::missing_count(shape)
 }
 
 // The equations' number of the cell that a caller calls c.
 pub fn cell_of(shape: Shape, c: usize) -> usize
-    requires { ⌜ WellFormed shape × (c < cells shape) ⌝ }
+    requires { ⌜ WellFormed shape × (c < existing shape) ⌝ }
     ensures { λ r. ⌜ r ≡ cellOf shape c ⌝ }
 {
     let n = crate::row_count(shape);
@@ -32,7 +48,7 @@ pub fn cell_of(shape: Shape, c: usize) -> usize
 
 // Where column j starts in the stripe's bytes.
 pub fn column_place(shape: Shape, j: usize) -> usize
-    requires { ⌜ WellFormed shape × (j < columns shape) ⌝ }
+    requires { ⌜ WellFormed shape × (j < columns shape) × (isThere shape j ≡ true) ⌝ }
     ensures { λ r. ⌜ r ≡ place shape (cellNumber shape 0 j) ⌝ }
 {
     lies_at(shape, j) * (crate::row_count(shape) * shape.cell)
@@ -40,7 +56,7 @@ pub fn column_place(shape: Shape, j: usize) -> usize
 
 // Where the cell in a row and a column starts in the stripe's bytes.
 pub fn cell_place(shape: Shape, row: usize, column: usize) -> usize
-    requires { ⌜ WellFormed shape × (row < rows shape) × (column < columns shape) ⌝ }
+    requires { ⌜ WellFormed shape × (row < rows shape) × (column < columns shape) × (isThere shape column ≡ true) ⌝ }
     ensures { λ r. ⌜ r ≡ place shape (cellNumber shape row column) ⌝ }
 {
     column_place(shape, column) + row * shape.cell
@@ -48,7 +64,7 @@ pub fn cell_place(shape: Shape, row: usize, column: usize) -> usize
 
 // Where cell c, as the equations number it, starts in the stripe's bytes.
 pub fn place_of(shape: Shape, c: usize) -> usize
-    requires { ⌜ WellFormed shape × (c < cells shape) ⌝ }
+    requires { ⌜ WellFormed shape × (c < cells shape) × (cellThere shape c ≡ true) ⌝ }
     ensures { λ r. ⌜ r ≡ place shape c ⌝ }
 {
     let n = crate::row_count(shape);

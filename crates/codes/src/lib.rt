@@ -1,14 +1,15 @@
 // The shape of a stripe, the published equations of RDP, H-Code and X-Code, and the refusals that every call on a stripe shares.
 ghost use mathlib.Core.Path.{_≡_};
-ghost use mathlib.Core.Bool.{false};
+ghost use mathlib.Core.Bool.{false, cond};
+ghost use lib.Dec.{eqb};
 ghost use Prim.Native.Nat.{ℕ, _+_, _%_, _≤_, _<_};
 ghost use lib.ListN.{length, getD};
 ghost use Rattle.xor.specs.Runs.{Says};
-ghost use Rattle.codes.specs.Shape.{listed, rows, columns, cells, equations, cellNumber, stripeLength, WellFormed};
+ghost use Rattle.codes.specs.Shape.{listed, rows, columns, cells, equations, cellNumber, missing, wrongData, disks, existing, stripeLength, WellFormed};
 ghost use Rattle.codes.specs.Geometry.{cellAt, place};
 ghost use Rattle.codes.specs.Encoded.{parityCell, isParity};
 ghost use Rattle.codes.specs.Refusals.{refusal, codeFaults, sizeFaults, shapeFaults, stripeFaults, writeFaults, cellsFaults, columnsFaults};
-ghost use Rattle.codes.specs.Lines.{Lies, Walks, Placed, Found, Holding};
+ghost use Rattle.codes.specs.Lines.{wrap, Short, Walks, Placed, Found, Holding};
 ghost use Rattle.codes.specs.Depends.{DataCell, DependOn};
 ghost use Rattle.codes.specs.Holders.{HeldBy, Named};
 
@@ -21,6 +22,7 @@ pub use layout::cell_of;
 pub use layout::cell_place;
 pub use layout::column_of;
 pub use layout::column_place;
+pub use layout::data_columns;
 pub use layout::lies_at;
 pub use layout::place_of;
 
@@ -33,12 +35,18 @@ const MOST_CELL: usize = 4096;
 // Room for the places of an equation's cells.
 pub const PLACES: usize = 32;
 
-// What describes a stripe: the code (1 RDP, 2 H-Code, 3 X-Code), the prime, and the bytes in a cell. Any numbers may stand here.
-#[repr(C)]
+// How many data columns a stripe has: as many as its code says, or of RDP's p - 1 only the first m; those after them don't exist.
+pub enum Width {
+    Full,
+    Data(usize),
+}
+
+// What describes a stripe: the code (1 RDP, 2 H-Code, 3 X-Code), the prime, the bytes in a cell, and its data columns. Any numbers may stand here.
 pub struct Shape {
     pub code: usize,
     pub p: usize,
     pub cell: usize,
+    pub width: Width,
 }
 
 // What a call answers that counts: how many, or a refusal number.
@@ -54,16 +62,16 @@ struct Extent {
     equations: usize,
 }
 
-// The cells of an equation: the row and the column of its parity cell, and a line through the `count` cells whose XOR that is.
-// The line starts in a row and a column; each next cell is `fall` rows down and `step` columns on, from column p - 1 back to 0.
+// The cells of an equation, numbered as they lie: its parity cell, and a line through the `count` cells whose XOR that is. The line starts
+// at `first`; each next cell is `step` cells on, less `around` where it would not be below that; cell `turn`, if not 0, is `second`.
 struct Line {
-    level: usize,
-    parity: usize,
+    to: usize,
     count: usize,
-    row: usize,
-    fall: usize,
-    column: usize,
+    first: usize,
     step: usize,
+    around: usize,
+    turn: usize,
+    second: usize,
 }
 
 // Where in the stripe's bytes an equation's parity cell starts, and how many cells it is the XOR of.
@@ -110,12 +118,24 @@ pub fn row_count(shape: Shape) -> usize
     extent_of(shape).rows
 }
 
-// Columns of a stripe.
-pub fn column_count(shape: Shape) -> usize
+// Data columns that don't exist.
+fn missing_count(shape: Shape) -> usize
     requires { ⌜ WellFormed shape ⌝ }
-    ensures { λ r. ⌜ r ≡ columns shape ⌝ }
+    ensures { λ r. ⌜ r ≡ missing shape ⌝ }
 {
-    extent_of(shape).columns
+    let width = shape.width;
+    match width {
+        Width::Full => 0,
+        Width::Data(m) => shape.p - 1 - m,
+    }
+}
+
+// Columns that exist, each on a disk of its own.
+pub fn disk_count(shape: Shape) -> usize
+    requires { ⌜ WellFormed shape ⌝ }
+    ensures { λ r. ⌜ r ≡ disks shape ⌝ }
+{
+    extent_of(shape).columns - missing_count(shape)
 }
 
 // Equations of a stripe.
@@ -126,12 +146,20 @@ pub fn equation_count(shape: Shape) -> usize
     extent_of(shape).equations
 }
 
-// Cells of a stripe.
-pub fn cell_count(shape: Shape) -> usize
+// Cells of a stripe as the equations number them.
+pub fn cell_numbers(shape: Shape) -> usize
     requires { ⌜ WellFormed shape ⌝ }
     ensures { λ r. ⌜ r ≡ cells shape ⌝ }
 {
-    column_count(shape) * row_count(shape)
+    extent_of(shape).columns * row_count(shape)
+}
+
+// Cells that exist.
+pub fn cell_count(shape: Shape) -> usize
+    requires { ⌜ WellFormed shape ⌝ }
+    ensures { λ r. ⌜ r ≡ existing shape ⌝ }
+{
+    disk_count(shape) * row_count(shape)
 }
 
 // The length of a stripe in bytes.
@@ -142,7 +170,24 @@ pub fn stripe_bytes(shape: Shape) -> usize
     cell_count(shape) * shape.cell
 }
 
-// The refusal of a code and a prime: 1 or 2, the first that applies, or 0.
+// Whether a number of data columns is given that can't be: outside 1 to p - 1, or for another code than RDP.
+fn data_wrong(shape: Shape) -> bool
+    ensures { λ r. ⌜ r ≡ wrongData (shape .code) (shape .p) (shape .width) ⌝ }
+{
+    let width = shape.width;
+    let Width::Data(m) = width else {
+        return false;
+    };
+    if shape.code != 1 {
+        return true;
+    }
+    if m == 0 {
+        return true;
+    }
+    shape.p <= m
+}
+
+// The refusal of a code, a prime and a number of data columns: 1, 2 or 14, the first that applies, or 0.
 pub fn code_refusal(shape: Shape) -> usize
     ensures { λ r. ⌜ r ≡ refusal (codeFaults shape) ⌝ }
 {
@@ -154,6 +199,9 @@ pub fn code_refusal(shape: Shape) -> usize
     }
     if !is_listed(shape.p) {
         return 2;
+    }
+    if data_wrong(shape) {
+        return 14;
     }
     0
 }
@@ -219,23 +267,35 @@ fn line_of(shape: Shape, q: usize) -> Line
     xcode::line(shape, q)
 }
 
+// Where cell k of a line starts, given where the one before it does; all numbers but k and turn in bytes.
+fn next_place(at: usize, step: usize, around: usize, k: usize, turn: usize, second: usize) -> usize
+    requires { ⌜ (at ≤ 4194304) × (step ≤ 4194304) ⌝ }
+    ensures { λ r. ⌜ r ≡ cond (eqb k turn) second (wrap around (at + step)) ⌝ }
+{
+    if k == turn {
+        return second;
+    }
+    let next = at + step;
+    if around <= next { next - around } else { next }
+}
+
 // Fills in where in the stripe's bytes the cells of a line start.
 fn place_cells(shape: Shape, l: Line, places: &mut [usize; PLACES])
-    requires { ⌜ WellFormed shape × Lies shape l × (length (now places) ≡ 32) ⌝ }
+    requires { ⌜ WellFormed shape × Short l × (length (now places) ≡ 32) ⌝ }
     ensures { λ _. ⌜ Placed shape l (now (places .exit)) ⌝ }
 {
-    let p = shape.p;
+    let cell = shape.cell;
     let count = l.count;
-    let fall = l.fall;
-    let step = l.step;
-    let mut row = l.row;
-    let mut column = l.column;
+    let turn = l.turn;
+    let step = l.step * cell;
+    let around = l.around * cell;
+    let second = l.second * cell;
+    let mut at = l.first * cell;
     let mut k = 0;
     while k < count {
-        places[k] = cell_place(shape, row, column);
-        row += fall;
-        column = turned(column, step, p);
+        places[k] = at;
         k += 1;
+        at = next_place(at, step, around, k, turn, second);
     }
 }
 
@@ -245,7 +305,7 @@ pub fn sources_of(shape: Shape, q: usize, places: &mut [usize; PLACES]) -> Sourc
     ensures { λ r. ⌜ Found shape q r (now (places .exit)) ⌝ }
 {
     let l = line_of(shape, q);
-    let to = cell_place(shape, l.level, l.parity);
+    let to = l.to * shape.cell;
     let count = l.count;
     place_cells(shape, l, places);
     Sources { to, count }
@@ -268,12 +328,12 @@ pub fn parity_place(shape: Shape, q: usize) -> usize
     ensures { λ r. ⌜ r ≡ place shape (parityCell shape q) ⌝ }
 {
     let l = line_of(shape, q);
-    cell_place(shape, l.level, l.parity)
+    l.to * shape.cell
 }
 
 // Whether the cell in a row and in the column that a caller calls d is a parity cell.
 fn parity_at(shape: Shape, row: usize, d: usize) -> bool
-    requires { ⌜ WellFormed shape × (row < rows shape) × (d < columns shape) ⌝ }
+    requires { ⌜ WellFormed shape × (row < rows shape) × (d < disks shape) ⌝ }
     ensures { λ r. ⌜ r ≡ isParity shape (cellAt shape row d) ⌝ }
 {
     is_parity(shape, row, column_of(shape, d))
@@ -290,7 +350,7 @@ pub fn write_refusal(shape: Shape, bytes: usize, row: usize, column: usize, new:
     if row_count(shape) <= row {
         return 6;
     }
-    if column_count(shape) <= column {
+    if disk_count(shape) <= column {
         return 6;
     }
     if parity_at(shape, row, column) {
@@ -338,7 +398,7 @@ pub fn columns_refusal(shape: Shape, bytes: usize, a: usize, b: usize) -> usize
     if refusal != 0 {
         return refusal;
     }
-    let n = column_count(shape);
+    let n = disk_count(shape);
     if n <= a {
         return 6;
     }

@@ -2,41 +2,79 @@
 use crate::Line;
 use crate::Shape;
 ghost use mathlib.Core.Path.{_≡_};
-ghost use Prim.Native.Nat.{_<_};
+ghost use mathlib.Core.Bool.{cond};
+ghost use lib.Dec.{eqb};
+ghost use Prim.Native.Nat.{_+_, _-_, _<_};
 ghost use Rattle.codes.specs.Shape.{rows, columns, equations, cellNumber, WellFormed};
 ghost use Rattle.codes.specs.Encoded.{isParity};
 ghost use Rattle.codes.specs.Lines.{Walks};
 ghost use Rattle.codes.specs.Depends.{DataCell, DependOn};
 ghost use Rattle.codes.specs.Holders.{HeldBy};
 
+// How many cells such a diagonal has in the last m + 1 columns that it meets: in the row parity column none where that would be row p - 1.
+fn met(m: usize, d: usize, n: usize) -> usize
+    requires { ⌜ (m < 32) × (d < 32) ⌝ }
+    ensures { λ r. ⌜ r ≡ cond (eqb (d + 1) n) m (m + 1) ⌝ }
+{
+    if d + 1 == n {
+        return m;
+    }
+    m + 1
+}
+
+// The line of a diagonal among m data columns, from the column in which it starts down the columns and the rows, and from column 0 on to the row
+// parity column. Where it meets the columns m to p - 2, it goes on in column m - 1.
+fn diagonal(shape: Shape, d: usize) -> Line
+    requires { ⌜ WellFormed shape × (shape .code ≡ 1) × (d < shape .p - 1) ⌝ }
+    ensures { λ r. ⌜ Walks shape (shape .p - 1 + d) r ⌝ }
+{
+    let n = shape.p - 1;
+    let m = crate::data_columns(shape);
+    let to = (m + 1) * n + d;
+    let step = m * n + 1;
+    let around = (m + 1) * n;
+    let last = (m - 1) * n;
+    if d + 2 <= m {
+        return Line {
+            to,
+            count: m,
+            first: d * n,
+            step,
+            around,
+            turn: d + 2,
+            second: last + (d + 2 + n - m),
+        };
+    }
+    Line {
+        to,
+        count: met(m, d, n),
+        first: last + (d + 1 - m),
+        step,
+        around,
+        turn: 0,
+        second: 0,
+    }
+}
+
 // The line of equation q: rows first, then the diagonals, which hold the row parity column.
 pub fn line(shape: Shape, q: usize) -> Line
     requires { ⌜ WellFormed shape × (shape .code ≡ 1) × (q < equations shape) ⌝ }
     ensures { λ r. ⌜ Walks shape q r ⌝ }
 {
-    let p = shape.p;
-    let n = p - 1;
+    let n = shape.p - 1;
     if q < n {
+        let m = crate::data_columns(shape);
         return Line {
-            level: q,
-            parity: n,
-            count: n,
-            row: q,
-            fall: 0,
-            column: 0,
-            step: 1,
+            to: m * n + q,
+            count: m,
+            first: q,
+            step: n,
+            around: m * n,
+            turn: 0,
+            second: 0,
         };
     }
-    let d = q - n;
-    Line {
-        level: d,
-        parity: p,
-        count: n,
-        row: 0,
-        fall: 1,
-        column: d,
-        step: n,
-    }
+    diagonal(shape, q - n)
 }
 
 // Whether a cell is a parity cell: in the last two columns.

@@ -9,7 +9,7 @@ ghost use Rattle.codes.specs.Lines.{Walks};
 ghost use Rattle.codes.specs.Depends.{DataCell, DependOn};
 ghost use Rattle.codes.specs.Holders.{HeldBy};
 
-// The line of equation q: the first family, then the second.
+// The line of equation q: the first family, then the second. Both go down the rows, one column on or one back.
 pub fn line(shape: Shape, q: usize) -> Line
     requires { ⌜ WellFormed shape × (shape .code ≡ 3) × (q < equations shape) ⌝ }
     ensures { λ r. ⌜ Walks shape q r ⌝ }
@@ -17,24 +17,24 @@ pub fn line(shape: Shape, q: usize) -> Line
     let p = shape.p;
     if q < p {
         return Line {
-            level: p - 2,
-            parity: q,
+            to: q * p + (p - 2),
             count: p - 2,
-            row: 0,
-            fall: 1,
-            column: crate::turned(q, 2, p),
-            step: 1,
+            first: crate::turned(q, 2, p) * p,
+            step: p + 1,
+            around: p * p,
+            turn: 0,
+            second: 0,
         };
     }
     let c = q - p;
     Line {
-        level: p - 1,
-        parity: c,
+        to: c * p + (p - 1),
         count: p - 2,
-        row: 0,
-        fall: 1,
-        column: crate::turned(c, p - 2, p),
-        step: p - 1,
+        first: crate::turned(c, p - 2, p) * p,
+        step: (p - 1) * p + 1,
+        around: p * p,
+        turn: 0,
+        second: 0,
     }
 }
 

@@ -17,7 +17,7 @@ add-result : tie.Need-add-result
 add-result c = search needs
 
 returns : tie.Need-returns
-returns c = holding _ _ _ _ (c .sources-of .ensures)
+returns c = let s = c .before .before in holding (s .args .shape) (s .pre .0) _ (s .pre .1) _ _ (c .sources-of .ensures)
 
 pub cells-of-spec : {M : Type 1} → statement M
 cells-of-spec =

@@ -14,7 +14,7 @@ column-of-requires c κs = (c .pre .0, c .pre .2)
 is-parity-requires : tie.Need-is-parity-requires
 is-parity-requires c κs =
     let start = c .before in
-    (start .pre .0, start .pre .1, subst (λ (j : ℕ). j < columns (start .args .shape)) (sym (c .column-of .ensures)) (column-there (start .args .shape) (start .args .d) (start .pre .2)))
+    (start .pre .0, start .pre .1, subst (λ (j : ℕ). j < columns (start .args .shape)) (sym (c .column-of .ensures)) (column-there (start .args .shape) (start .pre .0) (start .args .d) (start .pre .2)))
 
 returns : tie.Need-returns
 returns c =

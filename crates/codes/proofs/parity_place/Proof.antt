@@ -1,5 +1,6 @@
 -- `codes::parity_place` meets its contract. The line's parity cell is the equation's.
-use Rattle.codes.proofs.Walked.{to-is}
+use native.Mathlib.Omega.{arith}
+use Rattle.codes.proofs.Walked.{to-is, to-small}
 use borrow.Author.Needs.{needs}
 use Rattle.codes.proofs.parity_place.Statement.{statement}
 use Rattle.codes.proofs.parity_place.Tie as tie
@@ -7,11 +8,15 @@ use Rattle.codes.proofs.parity_place.Tie as tie
 line-of-requires : tie.Need-line-of-requires
 line-of-requires c κs = search needs
 
-cell-place-requires : tie.Need-cell-place-requires
-cell-place-requires c κs = search needs
+mul-result : tie.Need-mul-result
+mul-result c =
+    let s = c .before .before .before in
+    omega (arith, to-small (s .args .shape) (s .pre .0) _ (s .pre .1) _ (c .before .before .line-of .ensures))
 
 returns : tie.Need-returns
-returns c = to-is (c .before .before .args .shape) (c .before .before .pre .0) _ (c .before .before .pre .1) _ (c .before .line-of .ensures) _ (c .cell-place .ensures)
+returns c =
+    let s = c .before .before .before in
+    to-is (s .args .shape) (s .pre .0) _ (s .pre .1) _ (c .before .before .line-of .ensures)
 
 pub parity-place-spec : {M : Type 1} → statement M
-parity-place-spec = tie.close (tie.spec line-of-requires cell-place-requires returns)
+parity-place-spec = tie.close (tie.spec line-of-requires mul-result returns)

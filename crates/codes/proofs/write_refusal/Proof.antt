@@ -37,18 +37,18 @@ returns-2 c =
     let a = c .before .before .before .before .args in
     write-after (a .shape) (a .bytes) (a .row) (a .column) (a .new) .own (right-of (c .before .before)) (hit (beyond (c .before .row-count .ensures) (c .if2 .taken)))
 
-column-count-requires : tie.Need-column-count-requires
-column-count-requires c κs = formed (c .before .before)
+disk-count-requires : tie.Need-disk-count-requires
+disk-count-requires c κs = formed (c .before .before)
 
 returns-3 : tie.Need-returns-3
 returns-3 c =
     let a = c .before .before .before .before .before .before .args in
     write-after (a .shape) (a .bytes) (a .row) (a .column) (a .new) .own (right-of (c .before .before .before .before))
-    (miss (inside (c .before .before .before .row-count .ensures) (c .before .before .if2 .left)) (hit (beyond (c .before .column-count .ensures) (c .if3 .taken))))
+    (miss (inside (c .before .before .before .row-count .ensures) (c .before .before .if2 .left)) (hit (beyond (c .before .disk-count .ensures) (c .if3 .taken))))
 
 parity-at-requires : tie.Need-parity-at-requires
 parity-at-requires c κs =
-    (formed (c .before .before .before .before), omega (arith, c .before .before .before .row-count .ensures, c .before .before .if2 .left), omega (arith, c .before .column-count .ensures, c .if3 .left))
+    (formed (c .before .before .before .before), omega (arith, c .before .before .before .row-count .ensures, c .before .before .if2 .left), omega (arith, c .before .disk-count .ensures, c .if3 .left))
 
 -- past the third test the cell is inside, and the tests that are left decide
 left-tests : {r : ℕ} (c : tie.Else3) → let a = c .before .before .before .before .before .before .args in
@@ -57,7 +57,7 @@ left-tests : {r : ℕ} (c : tie.Else3) → let a = c .before .before .before .be
 left-tests c g =
     let a = c .before .before .before .before .before .before .args in
     write-after (a .shape) (a .bytes) (a .row) (a .column) (a .new) .own (right-of (c .before .before .before .before))
-    (miss (inside (c .before .before .before .row-count .ensures) (c .before .before .if2 .left)) (miss (inside (c .before .column-count .ensures) (c .if3 .left)) g))
+    (miss (inside (c .before .before .before .row-count .ensures) (c .before .before .if2 .left)) (miss (inside (c .before .disk-count .ensures) (c .if3 .left)) g))
 
 returns-4 : tie.Need-returns-4
 returns-4 c = left-tests (c .before .before) (hit (sym (c .before .parity-at .ensures) ∙ c .if4 .taken))
@@ -76,7 +76,7 @@ write-refusal-spec =
     returns
     row-count-requires
     returns-2
-    column-count-requires
+    disk-count-requires
     returns-3
     parity-at-requires
     returns-4

@@ -1,7 +1,7 @@
 -- `codes::layout::cell_of` meets its contract. The row stays, and the column is the one that lies there.
 use native.Mathlib.Omega.{arith}
 use Rattle.codes.proofs.Shapes.{rows-low, cells-high}
-use Rattle.codes.proofs.Geometry.{column-seen, cell-of-is, cell-of-inside}
+use Rattle.codes.proofs.Geometry.{disk-seen, cell-of-is, cell-of-inside}
 use borrow.Author.Needs.{needs}
 use Rattle.codes.proofs.layout.cell_of.Statement.{statement}
 use Rattle.codes.proofs.layout.cell_of.Tie as tie
@@ -13,7 +13,7 @@ div-column-of : tie.Need-div-column-of
 div-column-of c = omega (arith, c .row-count .ensures, rows-low (c .before .args .shape) (c .before .pre .0))
 
 column-of-requires : tie.Need-column-of-requires
-column-of-requires c κs = (c .before .pre .0, column-seen (c .before .args .shape) (c .before .pre .0) _ _ (c .row-count .ensures) (c .before .pre .1))
+column-of-requires c κs = (c .before .pre .0, disk-seen (c .before .args .shape) (c .before .pre .0) _ _ (c .row-count .ensures) (c .before .pre .1))
 
 mul-result : tie.Need-mul-result
 mul-result c = omega (arith, cell-of-is (c .before .before .args .shape) (c .before .before .pre .0) (c .before .before .args .c) _ _ (c .before .row-count .ensures) (c .column-of .ensures), cell-of-inside (c .before .before .args .shape) (c .before .before .pre .0) (c .before .before .args .c) (c .before .before .pre .1), cells-high (c .before .before .args .shape) (c .before .before .pre .0))

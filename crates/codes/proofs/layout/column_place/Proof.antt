@@ -15,7 +15,7 @@ mul-result : tie.Need-mul-result
 mul-result c = omega (arith, column-small (c .before .before .before .args .shape) (c .before .before .before .pre .0) _ (c .before .row-count .ensures))
 
 mul-result-2 : tie.Need-mul-result-2
-mul-result-2 c = omega (arith, column-place-is (c .before .before .before .args .shape) (c .before .before .before .pre .0) _ _ _ (c .before .before .lies-at .ensures) (c .before .row-count .ensures), first-small (c .before .before .before .args .shape) (c .before .before .before .pre .0) _ (c .before .before .before .pre .1))
+mul-result-2 c = omega (arith, column-place-is (c .before .before .before .args .shape) (c .before .before .before .pre .0) _ _ _ (c .before .before .lies-at .ensures) (c .before .row-count .ensures), first-small (c .before .before .before .args .shape) (c .before .before .before .pre .0) _ (c .before .before .before .pre .1) (c .before .before .before .pre .2))
 
 returns : tie.Need-returns
 returns c = column-place-is (c .before .before .before .args .shape) (c .before .before .before .pre .0) _ _ _ (c .before .before .lies-at .ensures) (c .before .row-count .ensures)

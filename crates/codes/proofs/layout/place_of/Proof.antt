@@ -3,7 +3,7 @@ use mathlib.Core.Path.{ap, _∙_}
 use native.Mathlib.Omega.{arith}
 use Rattle.codes.specs.Geometry.{place}
 use Rattle.codes.proofs.Shapes.{rows-low}
-use Rattle.codes.proofs.Geometry.{row-seen, column-seen, number-seen}
+use Rattle.codes.proofs.Geometry.{row-seen, column-seen, there-seen, number-seen}
 use borrow.Author.Needs.{needs}
 use Rattle.codes.proofs.layout.place_of.Statement.{statement}
 use Rattle.codes.proofs.layout.place_of.Tie as tie
@@ -21,7 +21,7 @@ cell-place-requires : tie.Need-cell-place-requires
 cell-place-requires c κs =
     let a = c .before .args in
     let is = c .row-count .ensures in
-    (c .before .pre .0, row-seen (a .shape) (c .before .pre .0) (a .c) _ is, column-seen (a .shape) (c .before .pre .0) (a .c) _ is (c .before .pre .1))
+    (c .before .pre .0, row-seen (a .shape) (c .before .pre .0) (a .c) _ is, column-seen (a .shape) (c .before .pre .0) (a .c) _ is (c .before .pre .1), there-seen (a .shape) (c .before .pre .0) (a .c) _ is (c .before .pre .2))
 
 returns : tie.Need-returns
 returns c =
