@@ -14,7 +14,9 @@ use Rattle.xor.proofs.Cases.{by-equal, not-passed}
 use Rattle.xor.proofs.Algebra.{⊕-zero, ⊕-self, equal-⊕}
 use Rattle.xor.proofs.Sums.{xors-same, nothing, xors-one, Lists, xors-listed}
 use Rattle.codes.specs.declared.Shape.{Shape}
-use Rattle.codes.specs.Shape.{rows, columns, cells, equations, cellNumber, WellFormed}
+use Rattle.codes.specs.Shape.{rows, columns, cells, disks, equations, cellNumber, WellFormed}
+use Rattle.codes.specs.Geometry.{columnOf}
+use Rattle.codes.proofs.Geometry.{column-there}
 use Rattle.codes.specs.Encoded.{total}
 use Rattle.codes.specs.Holders.{holds}
 use Rattle.codes.proofs.Shapes.{rows-low}
@@ -31,9 +33,9 @@ inColumn s c value k = cond (eqb (k / rows s) c) (value (k % rows s)) 0
 abbrev columnSum : Shape → ℕ → ℕ → (ℕ → ℕ) → ℕ
 columnSum s q c v = xors (rows s) (λ i. cond (holds s q (cellNumber s i c)) (v i) 0)
 
--- no column below c explains values with these totals
+-- no column at a place below c explains values with these totals
 abbrev pub NoneBelow : Shape → List ℕ → ℕ → Type 0
-NoneBelow s totals c = (f : ℕ → ℕ) → TotalsOf s f totals → (d : ℕ) → d < c → Explains s f d → ⊥
+NoneBelow s totals c = (f : ℕ → ℕ) → TotalsOf s f totals → (d : ℕ) → d < c → Explains s f (columnOf s d) → ⊥
 
 module _ (s : Shape) (w : WellFormed s) (c : ℕ) (lc : c < columns s) where
   -- ---- sums over one column
@@ -120,21 +122,24 @@ module _ (s : Shape) (w : WellFormed s) (c : ℕ) (lc : c < columns s) where
             (not-passed (λ p. n (same-row j i lj l (lowest-alone s w (cellNumber s i c) inside (by .0) (by .1) (cellNumber s j c) (column-is s w j c lj ∙ sym (column-is s w i c l)) p)))))
             ∙ ap (λ (b : Bool). cond b (y (cellNumber s i c)) 0) (by .1 .passes there)
 
-  -- ---- the candidate
+-- ---- the candidate: the column at place c
 
-  module _ (totals rest : List ℕ) (h : Without s totals c (rows s) rest) where
-    -- something is left: the column is passed over
-    pub none-more : (next q : ℕ) → next ≡ c + 1 → NoneBelow s totals c → q < equations s → getD rest q 0 ≢ 0 → NoneBelow s totals next
-    none-more next q one before lq left f t d l e =
-        by-equal d c (λ same. left (explained-zero f totals rest t h (subst (Explains s f) same e) q lq)) (λ n. before f t d (omega arith) e)
+module _ (s : Shape) (w : WellFormed s) (c : ℕ) (lc : c < disks s) (column : ℕ) (is : column ≡ columnOf s c) (totals rest : List ℕ) (h : Without s totals column (rows s) rest) where
+  there : column < columns s
+  there = omega (arith, column-there s w c lc)
 
-    pub candidate-here : (r : ℕ) → r ≡ c → ((q : ℕ) → q < equations s → getD rest q 0 ≡ 0) → Candidate s totals r
-    candidate-here r same zero =
-        subst (Candidate s totals) (sym same) (record { most = omega arith; found = λ f t l. explains-by f totals rest t h zero; none = λ f t l. absurd (omega arith) })
+  -- something is left: the column is passed over
+  pub none-more : (next q : ℕ) → next ≡ c + 1 → NoneBelow s totals c → q < equations s → getD rest q 0 ≢ 0 → NoneBelow s totals next
+  none-more next q one before lq left f t d l e =
+      by-equal d c (λ same. left (explained-zero s w column there f totals rest t h (subst (Explains s f) (ap (columnOf s) same ∙ sym is) e) q lq)) (λ n. before f t d (omega arith) e)
 
-pub candidate-none : (s : Shape) (totals : List ℕ) (c : ℕ) → c ≡ columns s → NoneBelow s totals c → Candidate s totals c
+  pub candidate-here : (r : ℕ) → r ≡ c → ((q : ℕ) → q < equations s → getD rest q 0 ≡ 0) → Candidate s totals r
+  candidate-here r same zero =
+      subst (Candidate s totals) (sym same) (record { most = omega arith; found = λ f t l. subst (Explains s f) is (explains-by s w column there f totals rest t h zero); none = λ f t l. absurd (omega arith) })
+
+pub candidate-none : (s : Shape) (totals : List ℕ) (c : ℕ) → c ≡ disks s → NoneBelow s totals c → Candidate s totals c
 candidate-none s totals c e before = record {
   most = omega arith;
   found = λ f t l. absurd (omega arith);
-  none = λ f t l d x. before f t d (let inside = x .inside in omega arith) x;
+  none = λ f t l d ld x. before f t d (omega arith) x;
 }

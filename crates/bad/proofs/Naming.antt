@@ -9,27 +9,27 @@ use native.Mathlib.Omega.{arith}
 use lib.Bits.{bitXor, xor-mod}
 use lib.Dec.{eqb}
 use lib.ListN.{length, getD, List·getD-eq-default}
-use borrow.Author.Tests.{eq-eqb, ne-eqb}
+use borrow.Author.Tests.{eq-eqb, ne-eqb, eqb-true}
 use Rattle.xor.specs.Xor.{_⊕_, xors}
 use Rattle.xor.specs.Runs.{Says}
-use Rattle.xor.proofs.Cases.{by-equal, by-less, clash}
+use Rattle.xor.proofs.Cases.{by-equal, by-less, clash, either}
 use Rattle.xor.proofs.Algebra.{⊕-is}
 use Rattle.xor.proofs.Runs.{says-same}
 use Rattle.xor.proofs.Sums.{xors-same}
 use Rattle.bits.specs.Bit.{IsLowest}
 use Rattle.codes.specs.declared.Shape.{Shape}
-use Rattle.codes.specs.Shape.{rows, columns, cells, equations, stripeLength, WellFormed}
-use Rattle.codes.specs.Geometry.{columnOf, liesAt, cellOf}
+use Rattle.codes.specs.Shape.{rows, columns, cells, disks, equations, stripeLength, WellFormed}
+use Rattle.codes.specs.Geometry.{isThere, cellThere, columnOf, liesAt, cellOf}
 use Rattle.codes.specs.Encoded.{parityCell, sumsCell, byteAt, sumOver, total, Solves, Encoded}
 use Rattle.codes.specs.Refusals.{refusal, stripeFaults}
 use Rattle.codes.specs.Agree.{inColumns}
-use Rattle.codes.proofs.Geometry.{column-there, lies-there, column-lies}
+use Rattle.codes.proofs.Geometry.{column-there, is-there, lies-column, byte-missing, byte-small}
 use Rattle.codes.proofs.Solutions.{total-zero, zero-total, solves-same}
 use Rattle.equation.specs.Window.{bytesAt, failsIn}
 use Rattle.equation.proofs.Windows.{not-failing}
-use Rattle.codes.proofs.Built.{built, built-long, built-at, built-byte}
+use Rattle.codes.proofs.Built.{built, Blank, built-long, built-at, built-byte}
 use Rattle.decide.specs.Survivors.{Undetermined, Restores}
-use Rattle.decide.specs.Solver.{mended, Solver}
+use Rattle.decide.specs.Solver.{mended, OnlyThere, Solver}
 use Rattle.decide.proofs.Determined.{kept-cell, columns-determined}
 use Rattle.lanes.specs.Lanes.{Passes}
 use Rattle.bad.specs.declared.BadColumn.{BadColumn}
@@ -64,22 +64,19 @@ module _ (s : Shape) (w : WellFormed s) (stripe : List ℕ) (at n : ℕ) where
     not-clean : CleanIn s stripe at n → ⊥
     not-clean clean = h .fails (total-zero s (h .q) (bytesAt s stripe (at + h .i)) (clean (h .i) (h .inside) (h .q) (h .there)))
 
-    pub named-column : c < columns s → (d : ℕ) → d ≡ liesAt s c → ExplainsIn s stripe at n c → FindingIn s stripe at n (Column d)
-    named-column l d e x = (
-      not-clean,
-      subst (λ (k : ℕ). k < columns s) (sym e) (lies-there s c l),
-      subst (ExplainsIn s stripe at n) (sym (column-lies s c l) ∙ ap (columnOf s) (sym e)) x,
-    )
+    pub named-column : c < disks s → (column : ℕ) → column ≡ columnOf s c → ExplainsIn s stripe at n column → FindingIn s stripe at n (Column c)
+    named-column l column e x = (not-clean, l, subst (ExplainsIn s stripe at n) e x)
 
-    pub none-named : c ≡ columns s → FindingIn s stripe at n Unexplained
-    none-named e = (not-clean, λ d x. h .candidate .none (bytesAt s stripe (at + h .i)) (h .of) (omega arith) d (explains-one d x (h .i) (h .inside)))
+    pub none-named : c ≡ disks s → FindingIn s stripe at n Unexplained
+    none-named e = (not-clean, λ d ld x. h .candidate .none (bytesAt s stripe (at + h .i)) (h .of) (omega arith) d ld (explains-one (columnOf s d) x (h .i) (h .inside)))
 
-    pub not-this : c < columns s → (ExplainsIn s stripe at n c → ⊥) → FindingIn s stripe at n Unexplained
-    not-this l no′ = (
+    pub not-this : c < disks s → (column : ℕ) → column ≡ columnOf s c → (ExplainsIn s stripe at n column → ⊥) → FindingIn s stripe at n Unexplained
+    not-this l column is no′ = (
       not-clean,
-      λ d x. by-equal c d (λ e. no′ (subst (ExplainsIn s stripe at n) (sym e) x))
+      λ d ld x. by-equal c d (λ e. no′ (subst (ExplainsIn s stripe at n) (ap (columnOf s) (sym e) ∙ sym is) x))
           (λ e. h .fails (total-zero s (h .q) (bytesAt s stripe (at + h .i))
-          (one-explains s w (bytesAt s stripe (at + h .i)) c d (h .candidate .found (bytesAt s stripe (at + h .i)) (h .of) l) (explains-one d x (h .i) (h .inside)) e (h .q) (h .there)))),
+          (one-explains s w (bytesAt s stripe (at + h .i)) (columnOf s c) (columnOf s d) (h .candidate .found (bytesAt s stripe (at + h .i)) (h .of) l) (explains-one (columnOf s d) x (h .i) (h .inside))
+          (λ same. e (sym (lies-column s w c) ∙ ap (liesAt s) same ∙ lies-column s w d)) (h .q) (h .there)))),
     )
 
 -- ---- whether one column explains the bytes
@@ -93,6 +90,12 @@ module _ (s : Shape) (column : ℕ) (lost : ℕ → Bool) (marks : (c : ℕ) →
   in-column : (k : ℕ) → k < cells s → lost k ≡ false → k / rows s ≢ column
   unfolding inColumns
   in-column k l e same = clash (marks k l ∙ ap₂ _||_ (eq-eqb (k / rows s) column same) (eq-eqb (k / rows s) column same)) e
+
+  -- they exist where the column does
+  pub column-only : isThere s column ≡ true → OnlyThere s lost
+  unfolding inColumns cellThere
+  column-only there k l p =
+      either (eqb (k / rows s) column) (eqb (k / rows s) column) (sym (marks k l) ∙ p) (λ e. ap (isThere s) (eqb-true (k / rows s) column e) ∙ there) (λ e. ap (isThere s) (eqb-true (k / rows s) column e) ∙ there)
 
 module _ (s : Shape) (w : WellFormed s) (column : ℕ) (inside : column < columns s) (stripe : List ℕ) (at n : ℕ)
     (lost : ℕ → Bool) (marks : (c : ℕ) → c < cells s → lost c ≡ inColumns s column column c) where
@@ -154,9 +157,15 @@ module _ (s : Shape) (w : WellFormed s) (stripe : List ℕ) (long : length strip
   clean-whole e i l q lq = subst (λ (k : ℕ). byteAt s stripe (parityCell s q) k ≡ sumOver s q (bytesAt s stripe k)) (sym (zero-add i)) (e .holds q lq i l)
 
   -- a column that explains every byte can be replaced
-  module _ (d : ℕ) (inside : d < columns s) (h : ExplainsIn s stripe 0 (s .cell) (columnOf s d)) where
+  module _ (d : ℕ) (inside : d < disks s) (h : ExplainsIn s stripe 0 (s .cell) (columnOf s d)) where
     byte-of : ℕ → ℕ → ℕ
     byte-of t k = h .mended t k % 2 ^ 8
+
+    -- 0 in the cells that don't exist: they are in other columns
+    blank : Blank s byte-of
+    unfolding byte-of cellThere
+    blank t l k lk none =
+        ap (λ (x : ℕ). x % 2 ^ 8) (h .agree t l k lk (λ e. clash (ap (isThere s) e ∙ is-there s w d) none) ∙ byte-missing s w stripe k (0 + t) none)
 
     witness : List ℕ
     witness = built s byte-of
@@ -169,7 +178,7 @@ module _ (s : Shape) (w : WellFormed s) (stripe : List ℕ) (long : length strip
         (λ l. subst (λ (x : ℕ). x < 256) (sym (List·getD-eq-default witness 0 (omega (arith, built-long s byte-of)))) (omega arith))
 
     replaced-by : Replaceable s stripe d
-    unfolding witness byte-of inColumns byteAt
+    unfolding witness byte-of inColumns
     replaced-by = record {
       inside = inside;
       replaced = witness;
@@ -177,24 +186,21 @@ module _ (s : Shape) (w : WellFormed s) (stripe : List ℕ) (long : length strip
         is = record {
           long = built-long s byte-of;
           bytes = witness-bytes;
-          encoded = record { holds = λ q lq t l. solves-same s w (byte-of t) (bytesAt s witness t) (λ k lk. sym (built-at s w byte-of k lk t l)) (solves-low s (h .mended t) (h .solves t l)) q lq };
+          encoded = record { holds = λ q lq t l. solves-same s w (byte-of t) (bytesAt s witness t) (λ k lk. sym (built-at s w byte-of blank k lk t l)) (solves-low s (h .mended t) (h .solves t l)) q lq };
         };
         agree = record {
           same = λ k lk e t l.
               let other : k / rows s ≢ columnOf s d = λ same. clash (ap₂ _||_ (eq-eqb (k / rows s) (columnOf s d) same) (eq-eqb (k / rows s) (columnOf s d) same)) e in
-              sym (built-at s w byte-of k lk t l ∙ ap (λ (x : ℕ). x % 2 ^ 8) (h .agree t l k lk other ∙ ap (byteAt s stripe k) (zero-add t)) ∙ mod-eq-of-lt (byte-small k t));
+              sym (built-at s w byte-of blank k lk t l ∙ ap (λ (x : ℕ). x % 2 ^ 8) (h .agree t l k lk other ∙ ap (byteAt s stripe k) (zero-add t)) ∙ mod-eq-of-lt (byte-small s w stripe bytes k t));
         };
       };
     }
-      where
-        byte-small : (k t : ℕ) → byteAt s stripe k t < 256
-        byte-small k t = bytes _
 
   -- and one that can be replaced explains every byte
   explains-whole : (d : ℕ) → Replaceable s stripe d → ExplainsIn s stripe 0 (s .cell) (columnOf s d)
   unfolding inColumns
   explains-whole d h = record {
-    inside = column-there s d (h .inside);
+    inside = column-there s w d (h .inside);
     mended = bytesAt s (h .replaced);
     solves = λ i l q lq. h .restores .is .encoded .holds q lq i l;
     agree = λ i l k lk other. sym (h .restores .agree .same k lk (rw (ne-eqb (k / rows s) (columnOf s d) other) refl) i l) ∙ ap (byteAt s stripe k) (sym (zero-add i));
@@ -203,7 +209,7 @@ module _ (s : Shape) (w : WellFormed s) (stripe : List ℕ) (long : length strip
   pub finding-whole : (answer : BadColumn) → FindingIn s stripe 0 (s .cell) answer → Finding s stripe answer
   finding-whole Clean h = whole-clean h
   finding-whole (Column d) h = (λ e. h .0 (clean-whole e), replaced-by d (h .1) (h .2))
-  finding-whole Unexplained h = (λ e. h .0 (clean-whole e), λ d r. h .1 (columnOf s d) (explains-whole d r))
+  finding-whole Unexplained h = (λ e. h .0 (clean-whole e), λ d r. h .1 d (r .inside) (explains-whole d r))
   finding-whole (Refused number) h = absurd h
 
 -- an accepted stripe's finding

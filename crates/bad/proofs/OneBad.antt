@@ -23,10 +23,10 @@ pub one-explains : (s : Shape) → WellFormed s → (f : ℕ → ℕ) (c d : ℕ
 one-explains s w f c d x y n = at-most-one-column s w f (x .mended) (y .mended) (x .solves) (y .solves) c d (x .inside) (y .inside) n (x .agree) (y .agree)
 
 -- a column whose replacement makes the stripe encoded explains every byte
-pub replaceable-explains : (s : Shape) (stripe : List ℕ) (c : ℕ) → Replaceable s stripe c → (t : ℕ) → t < s .cell → Explains s (bytesAt s stripe t) (columnOf s c)
+pub replaceable-explains : (s : Shape) → WellFormed s → (stripe : List ℕ) (c : ℕ) → Replaceable s stripe c → (t : ℕ) → t < s .cell → Explains s (bytesAt s stripe t) (columnOf s c)
 unfolding inColumns
-replaceable-explains s stripe c h t l = record {
-  inside = column-there s c (h .inside);
+replaceable-explains s w stripe c h t l = record {
+  inside = column-there s w c (h .inside);
   mended = bytesAt s (h .replaced) t;
   solves = λ q lq. h .restores .is .encoded .holds q lq t l;
   agree = λ k lk n. sym (h .restores .agree .same k lk (rw (ne-eqb (k / rows s) (columnOf s c) n) refl) t l);
@@ -36,4 +36,4 @@ replaceable-explains s stripe c h t l = record {
 pub one-bad-column : (s : Shape) → WellFormed s → (stripe : List ℕ) → (Encoded s stripe → ⊥) → (c d : ℕ) → Replaceable s stripe c → Replaceable s stripe d → c ≡ d
 one-bad-column s w stripe broken c d x y =
     by-equal c d (λ e. e)
-    (λ n. absurd (broken (record { holds = λ q lq t l. one-explains s w (bytesAt s stripe t) (columnOf s c) (columnOf s d) (replaceable-explains s stripe c x t l) (replaceable-explains s stripe d y t l) (λ e. n (sym (lies-column s c (x .inside)) ∙ ap (liesAt s) e ∙ lies-column s d (y .inside))) q lq })))
+    (λ n. absurd (broken (record { holds = λ q lq t l. one-explains s w (bytesAt s stripe t) (columnOf s c) (columnOf s d) (replaceable-explains s w stripe c x t l) (replaceable-explains s w stripe d y t l) (λ e. n (sym (lies-column s w c) ∙ ap (liesAt s) e ∙ lies-column s w d)) q lq })))

@@ -4,7 +4,7 @@ use mathlib.Core.List.{List}
 use Prim.Native.Nat.{ℕ, _<_}
 use lib.ListN.{length}
 use Rattle.codes.specs.declared.Shape.{Shape}
-use Rattle.codes.specs.Shape.{columns}
+use Rattle.codes.specs.Shape.{disks}
 use Rattle.codes.specs.Encoded.{Encoded}
 use Rattle.codes.specs.Refusals.{refusal, stripeFaults}
 use Rattle.bad.specs.declared.BadColumn.{BadColumn}
@@ -14,7 +14,7 @@ use Rattle.decide.specs.Survivors.{Restores}
 
 -- the replacement of the column that a caller calls c alone makes the stripe encoded
 pub record Replaceable (s : Shape) (stripe : List ℕ) (c : ℕ) : Type 0 where
-  pub inside : c < columns s
+  pub inside : c < disks s
   pub replaced : List ℕ
   pub restores : Restores s (callersColumns s c c) stripe replaced
 

@@ -9,7 +9,7 @@ use lib.ListN.{getD}
 use Rattle.xor.specs.Xor.{_⊕_, xors}
 use Rattle.bits.specs.Bit.{IsLowest}
 use Rattle.codes.specs.declared.Shape.{Shape}
-use Rattle.codes.specs.Shape.{rows, columns, cells, equations, cellNumber}
+use Rattle.codes.specs.Shape.{rows, columns, cells, disks, equations, cellNumber}
 use Rattle.codes.specs.Geometry.{columnOf}
 use Rattle.codes.specs.Encoded.{byteAt, total, Solves}
 use Rattle.codes.specs.Holders.{holds}
@@ -34,11 +34,11 @@ pub record Without (s : Shape) (totals : List ℕ) (column n : ℕ) (rest : List
   pub by : (i : ℕ) → i < n → (q : ℕ) × IsLowest (equations s) (λ k. holds s k (cellNumber s i column)) q × (value i ≡ getD totals q 0)
   pub left : (q : ℕ) → q < equations s → getD rest q 0 ≡ getD totals q 0 ⊕ xors n (λ i. cond (holds s q (cellNumber s i column)) (value i) 0)
 
--- r is a column that explains any values with these totals; or it is the number of columns, and none explains them
+-- r is the place of a column that explains any values with these totals; or it is the number of disks, and none that exists explains them
 pub record Candidate (s : Shape) (totals : List ℕ) (r : ℕ) : Type 0 where
-  pub most : r ≤ columns s
-  pub found : (f : ℕ → ℕ) → TotalsOf s f totals → r < columns s → Explains s f r
-  pub none : (f : ℕ → ℕ) → TotalsOf s f totals → columns s ≤ r → (c : ℕ) → Explains s f c → ⊥
+  pub most : r ≤ disks s
+  pub found : (f : ℕ → ℕ) → TotalsOf s f totals → r < disks s → Explains s f (columnOf s r)
+  pub none : (f : ℕ → ℕ) → TotalsOf s f totals → disks s ≤ r → (d : ℕ) → d < disks s → Explains s f (columnOf s d) → ⊥
 
 -- ---- n bytes of each cell, from byte `at` on
 
@@ -56,6 +56,6 @@ CleanIn s stripe at n = (i : ℕ) → i < n → Solves s (bytesAt s stripe (at +
 -- what a finding says of them; a column is named as callers number it
 abbrev pub FindingIn : Shape → List ℕ → ℕ → ℕ → BadColumn → Type 0
 FindingIn s stripe at n Clean = CleanIn s stripe at n
-FindingIn s stripe at n (Column d) = (CleanIn s stripe at n → ⊥) × (d < columns s) × ExplainsIn s stripe at n (columnOf s d)
-FindingIn s stripe at n Unexplained = (CleanIn s stripe at n → ⊥) × ((c : ℕ) → ExplainsIn s stripe at n c → ⊥)
+FindingIn s stripe at n (Column d) = (CleanIn s stripe at n → ⊥) × (d < disks s) × ExplainsIn s stripe at n (columnOf s d)
+FindingIn s stripe at n Unexplained = (CleanIn s stripe at n → ⊥) × ((d : ℕ) → d < disks s → ExplainsIn s stripe at n (columnOf s d) → ⊥)
 FindingIn s stripe at n (Refused number) = ⊥

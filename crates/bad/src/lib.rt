@@ -6,6 +6,7 @@ ghost use Prim.Native.Nat.{_<_};
 ghost use lib.ListN.{length};
 ghost use Rattle.xor.specs.Runs.{Says};
 ghost use Rattle.codes.specs.Shape.{rows, columns, equations, stripeLength, WellFormed};
+ghost use Rattle.codes.specs.Geometry.{isThere};
 ghost use Rattle.solve.specs.Masked.{Added};
 ghost use Rattle.equation.specs.Window.{bytesAt, Window, failsIn};
 ghost use Rattle.bad.specs.Bad.{Finds};
@@ -69,35 +70,35 @@ fn without_column(shape: Shape, totals: [u8; bits::ROOM], column: usize) -> [u8;
     rest
 }
 
-// The first column without which nothing is left of the totals; the number of columns where there is none.
+// The place of the first column without which nothing is left of the totals; the number of disks where there is none.
 fn candidate(shape: Shape, totals: [u8; bits::ROOM]) -> usize
     requires { ⌜ WellFormed shape ⌝ }
     ensures { λ r. ⌜ Candidate shape totals r ⌝ }
 {
-    let columns = codes::column_count(shape);
+    let disks = codes::disk_count(shape);
     let equations = codes::equation_count(shape);
-    let mut c = 0;
+    let mut d = 0;
     let found = 'columns: loop {
-        if c == columns {
-            break 'columns c;
+        if d == disks {
+            break 'columns d;
         }
-        let rest = without_column(shape, totals, c);
+        let rest = without_column(shape, totals, codes::column_of(shape, d));
         let mut q = 0;
         while q < equations {
             if rest[q] != 0 {
-                c += 1;
+                d += 1;
                 continue 'columns;
             }
             q += 1;
         }
-        break 'columns c;
+        break 'columns d;
     };
     found
 }
 
-// Whether one column alone explains n bytes of the stripe from byte `at` on.
+// Whether one column that exists alone explains n bytes of the stripe from byte `at` on.
 fn column_agrees(shape: Shape, stripe: &[u8], column: usize, at: usize, n: usize) -> bool
-    requires { ⌜ Window shape (now stripe) at n × (column < columns shape) ⌝ }
+    requires { ⌜ Window shape (now stripe) at n × (column < columns shape) × (isThere shape column ≡ true) ⌝ }
     ensures { λ r. ⌜ Says (ExplainsIn shape (now (stripe .entry)) at n column) r ⌝ }
 {
     let map = decide::mark_columns(shape, column, column);
@@ -120,12 +121,12 @@ fn name_column(shape: Shape, stripe: &[u8], q: usize, at: usize, n: usize) -> Ba
 {
     let i = equation::failing_byte(shape, stripe, q, at, n);
     let totals = totals_at(shape, stripe, at + i);
-    let c = candidate(shape, totals);
-    if c == codes::column_count(shape) {
+    let d = candidate(shape, totals);
+    if d == codes::disk_count(shape) {
         return BadColumn::Unexplained;
     }
-    if column_agrees(shape, stripe, c, at, n) {
-        return BadColumn::Column(codes::lies_at(shape, c));
+    if column_agrees(shape, stripe, codes::column_of(shape, d), at, n) {
+        return BadColumn::Column(d);
     }
     BadColumn::Unexplained
 }

@@ -45,11 +45,11 @@ built-byte s F i l = listed-at (stripeLength s) (λ k. F (k % s .cell) (cellOf s
 
 -- F is zero where a cell doesn't exist
 abbrev pub Blank : Shape → (ℕ → ℕ → ℕ) → Type 0
-Blank s F = (t c : ℕ) → cellThere s c ≡ false → F t c ≡ 0
+Blank s F = (t : ℕ) → t < s .cell → (c : ℕ) → c < cells s → cellThere s c ≡ false → F t c ≡ 0
 
 pub built-at : (s : Shape) → WellFormed s → (F : ℕ → ℕ → ℕ) → Blank s F → (c : ℕ) → c < cells s → (t : ℕ) → t < s .cell → byteAt s (built s F) c t ≡ F t c
 unfolding place
-built-at s w F blank c lc t lt = by-test (cellThere s c) there (λ h. byte-missing s w (built s F) c t h ∙ sym (blank t c h))
+built-at s w F blank c lc t lt = by-test (cellThere s c) there (λ h. byte-missing s w (built s F) c t h ∙ sym (blank t lt c lc h))
   where
     there : cellThere s c ≡ true → byteAt s (built s F) c t ≡ F t c
     there h =

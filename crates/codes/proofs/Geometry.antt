@@ -11,15 +11,15 @@ use lib.Arith.{digits-lt}
 use lib.Dec.{ltb, leb}
 use lib.ListN.{getD}
 use borrow.Author.Tests.{lt-ltb, le-ltb, ltb-true, le-leb, leb-true}
-use Rattle.xor.proofs.Cases.{by-less, by-equal, clash, either, or-left, or-right}
+use Rattle.xor.proofs.Cases.{by-less, by-equal, by-test, clash, either, or-left, or-right, not-passed}
 use Rattle.codes.specs.declared.Shape.{Shape}
 use Rattle.codes.specs.Shape.{rows, columns, equations, cells, cellNumber, missing, disks, existing, stripeLength, WellFormed}
 use Rattle.codes.specs.Geometry.{gap, isThere, cellThere, columnOf, liesAt, cellOf, callersCell, place}
-use Rattle.codes.specs.Encoded.{parityCell, byteAt}
+use Rattle.codes.specs.Encoded.{parityCell, byteAt, isParity}
 use Rattle.codes.proofs.Shapes.{rows-low, rows-high, few-columns, missing-low, missing-other, disks-is, disks-high, length-high}
 use Rattle.codes.proofs.Places.{cell-ends, cells-apart}
 use Rattle.codes.proofs.Lines.{rdp-rows}
-use Rattle.codes.proofs.Positions.{row-is, column-is, cell-inside, families, rdp-n, rdp-first, rdp-second}
+use Rattle.codes.proofs.Positions.{row-is, column-is, cell-inside, parity-some, families, rdp-n, rdp-first, rdp-second}
 
 -- ---- the map between columns and where they lie
 
@@ -204,6 +204,16 @@ module _ (s : Shape) (w : WellFormed s) where
   unfolding byteAt
   byte-missing stripe c t h = rw h refl
 
+  -- a byte of bytes is small
+  pub byte-small : (stripe : List ℕ) → ((i : ℕ) → getD stripe i 0 < 256) → (c t : ℕ) → byteAt s stripe c t < 256
+  byte-small stripe small c t =
+      by-test (cellThere s c) (λ h. subst (λ (x : ℕ). x < 256) (sym (byte-there stripe c t h)) (small (place s c + t)))
+      (λ h. subst (λ (x : ℕ). x < 256) (sym (byte-missing stripe c t h)) (omega arith))
+
+  -- bytes that are the same where a cell that exists has them
+  pub byte-same : (a b : List ℕ) (c t : ℕ) → (cellThere s c ≡ true → getD a (place s c + t) 0 ≡ getD b (place s c + t) 0) → byteAt s a c t ≡ byteAt s b c t
+  byte-same a b c t same = by-test (cellThere s c) (λ h. byte-there a c t h ∙ same h ∙ sym (byte-there b c t h)) (λ h. byte-missing a c t h ∙ sym (byte-missing b c t h))
+
   -- ---- as the code works them out
 
   pub column-place-is : (j lies n : ℕ) → lies ≡ liesAt s j → n ≡ rows s → lies * (n * s .cell) ≡ place s (cellNumber s 0 j)
@@ -254,3 +264,6 @@ module _ (s : Shape) (w : WellFormed s) where
       (λ d ld. ap (cellThere s) (rdp-second s w e d ld) ∙ cell-there-at d (s .p) (omega (arith, rdp-rows s w e)) ∙ there-after s (s .p) (omega arith))
       q (omega (arith, rdp-n s w e)))
       (λ n. there-all s (missing-other s w n) (parityCell s q / rows s))
+
+  pub missing-plain : (c : ℕ) → cellThere s c ≡ false → isParity s c ≡ false
+  missing-plain c none = not-passed (λ h. let q = parity-some s w c h in clash (ap (cellThere s) (sym (q .2)) ∙ parity-there (q .0) (q .1)) none)

@@ -75,7 +75,7 @@ module _ (s : Shape) (w : WellFormed s) where
   unfolding isParity
   parity-yes q c l e = any-at (equations s) (λ r. eqb (parityCell s r) c) q l (eq-eqb (parityCell s q) c e)
 
-  parity-some : (c : ℕ) → isParity s c ≡ true → (q : ℕ) × (q < equations s) × (parityCell s q ≡ c)
+  pub parity-some : (c : ℕ) → isParity s c ≡ true → (q : ℕ) × (q < equations s) × (parityCell s q ≡ c)
   unfolding isParity
   parity-some c h =
       let found = any-some (equations s) (λ r. eqb (parityCell s r) c) h in

@@ -15,11 +15,12 @@ use Rattle.xor.proofs.Cases.{by-equal, either, or-left, or-right, same-test}
 use Rattle.xor.proofs.Sets.{any-at, any-some}
 use Rattle.codes.specs.declared.Shape.{Shape}
 use Rattle.codes.specs.Shape.{rows, columns, cells, cellNumber, WellFormed}
-use Rattle.codes.specs.Geometry.{cellOf}
+use Rattle.codes.specs.Geometry.{isThere, cellThere, columnOf, cellOf}
 use Rattle.codes.proofs.Shapes.{rows-low, cells-high}
+use Rattle.codes.proofs.Geometry.{is-there, cell-of-there}
 use Rattle.codes.proofs.Positions.{column-is, cell-is, cell-inside, number-is}
-use Rattle.decide.specs.Solver.{lostIn}
-use Rattle.codes.specs.Agree.{inColumns}
+use Rattle.decide.specs.Solver.{lostIn, OnlyThere}
+use Rattle.codes.specs.Agree.{inColumns, callersColumns}
 use Rattle.decide.specs.Survivors.{named}
 use Rattle.decide.proofs.Lists.{new-at}
 
@@ -100,3 +101,18 @@ module _ (s : Shape) (w : WellFormed s) (n : ℕ) (rowsAre : n ≡ rows s) where
           (either (eqb (c / rows s) a) (eqb (c / rows s) b) p
           (λ q. or-left (eqb (b * n + c % rows s) c) (here a q))
           (λ q. or-right (eqb (a * n + c % rows s) c) (here b q)))
+
+-- ---- what callers name exists
+
+pub named-there : (s : Shape) → WellFormed s → (numbers : List ℕ) → OnlyThere s (named s numbers)
+unfolding named
+named-there s w numbers c lc p =
+    let found = any-some (length numbers) (λ k. eqb (cellOf s (getD numbers k 0)) c) p in
+    ap (cellThere s) (sym (eqb-true (cellOf s (getD numbers (found .0) 0)) c (found .2))) ∙ cell-of-there s w (getD numbers (found .0) 0)
+
+pub columns-there : (s : Shape) → WellFormed s → (a b : ℕ) → OnlyThere s (callersColumns s a b)
+unfolding inColumns cellThere
+columns-there s w a b c lc p =
+    either (eqb (c / rows s) (columnOf s a)) (eqb (c / rows s) (columnOf s b)) p
+    (λ e. ap (isThere s) (eqb-true (c / rows s) (columnOf s a) e) ∙ is-there s w a)
+    (λ e. ap (isThere s) (eqb-true (c / rows s) (columnOf s b) e) ∙ is-there s w b)

@@ -10,7 +10,7 @@ use lib.Dec.{eqb, ltb}
 use lib.ListN.{length, getD}
 use borrow.Author.Tests.{eq-eqb, ne-eqb, lt-ltb, ltb-true, not-true}
 use Rattle.xor.specs.Xor.{_⊕_, xors}
-use Rattle.xor.proofs.Cases.{by-test, by-less, clash, and-left, and-right, and-both}
+use Rattle.xor.proofs.Cases.{by-test, by-less, clash, and-left, and-right, and-both, not-passed}
 use Rattle.xor.proofs.Algebra.{⊕-zero}
 use Rattle.xor.proofs.Sums.{xors-zero, xors-one}
 use Rattle.solve.specs.declared.Eliminated.{Eliminated}
@@ -32,7 +32,7 @@ use Rattle.codes.proofs.Solutions.{total-zero, zero-total, total-holds, solves-
 use Rattle.decide.specs.declared.Decided.{Decided}
 use Rattle.decide.specs.declared.Decided.the-variants.{Solved, Open}
 use Rattle.decide.specs.Survivors.{Undetermined}
-use Rattle.decide.specs.Solver.{summed, mended, lostIn, Listed, Gathered, Rows, Solver, Decision}
+use Rattle.decide.specs.Solver.{summed, mended, lostIn, OnlyThere, Listed, Gathered, Rows, Solver, Decision}
 use Rattle.decide.proofs.Stripes.{two-solutions}
 
 -- ---- solutions of a code's equations, as tests on cells
@@ -135,17 +135,17 @@ module _ (s : Shape) (w : WellFormed s) (lost : ℕ → Bool) (u : ℕ) (list : 
 
 -- ---- the method stopped: two solutions
 
-pub undetermined : (s : Shape) → WellFormed s → (lost : ℕ → Bool) (c : ℕ) → verdict.Undetermined (equations s) (cells s) (holds s) lost c → Undetermined s lost
-undetermined s w lost c h =
-    two-solutions s w lost (h .one) (h .other) (λ d l. let small = h .oneBits d l in omega arith) (λ d l. let small = h .otherBits d l in omega arith)
+pub undetermined : (s : Shape) → WellFormed s → (lost : ℕ → Bool) → OnlyThere s lost → (c : ℕ) → verdict.Undetermined (equations s) (cells s) (holds s) lost c → Undetermined s lost
+undetermined s w lost there c h =
+    two-solutions s w lost (h .one) (h .other) (λ d l none. h .agree .same d l (not-passed (λ p. clash (there d l p) none))) (λ d l. let small = h .oneBits d l in omega arith) (λ d l. let small = h .otherBits d l in omega arith)
     (as-solves s w (h .one) (h .oneSolves)) (as-solves s w (h .other) (h .otherSolves)) (h .agree .same) c (h .inside) (h .differ)
 
 -- ---- what the program decides
 
-module _ (s : Shape) (w : WellFormed s) (map : List Bool) (u : ℕ) (list : List ℕ) (listed : Listed s map u list) where
+module _ (s : Shape) (w : WellFormed s) (map : List Bool) (there : OnlyThere s (lostIn map)) (u : ℕ) (list : List ℕ) (listed : Listed s map u list) where
   -- more lost cells than equations
   pub decision-more : equations s < u → Undetermined s (lostIn map)
-  decision-more more = let found = too-many (equations s) (cells s) (holds s) (lostIn map) (listed .more more) in undetermined s w (lostIn map) (found .0) (found .1)
+  decision-more more = let found = too-many (equations s) (cells s) (holds s) (lostIn map) (listed .more more) in undetermined s w (lostIn map) there (found .0) (found .1)
 
   module _ (few : u ≤ equations s) (rows : List ℕ) (held : Rows s u list rows) (sources chosen : List ℕ) (answer : Eliminated)
       (n : ℕ) (is : n ≡ equations s) (eliminates : Eliminates n u rows sources chosen answer) where
@@ -167,7 +167,7 @@ module _ (s : Shape) (w : WellFormed s) (map : List Bool) (u : ℕ) (list : List
     pub decision-open : answer ≡ Stopped → Undetermined s (lostIn map)
     decision-open e =
         let found = said Stopped e in
-        undetermined s w (lostIn map) (found .0) (stopped-at (equations s) (cells s) (holds s) (lostIn map) (found .0) (found .1) (found .2))
+        undetermined s w (lostIn map) there (found .0) (stopped-at (equations s) (cells s) (holds s) (lostIn map) (found .0) (found .1) (found .2))
 
     -- it passed
     module _ (unused : ℕ) (e : answer ≡ Passed unused) where

@@ -11,6 +11,7 @@ use Rattle.bits.specs.Bit.{bit}
 use Rattle.solve.specs.Masked.{Lists}
 use Rattle.codes.specs.declared.Shape.{Shape}
 use Rattle.codes.specs.Shape.{cells, equations}
+use Rattle.codes.specs.Geometry.{cellThere}
 use Rattle.codes.specs.Encoded.{Solves, total}
 use Rattle.codes.specs.Holders.{holds}
 use Rattle.decide.specs.declared.Decided.{Decided}
@@ -28,6 +29,10 @@ mended s lostCells sets k f c = f c ⊕ xors k (λ j. cond (eqb (getD lostCells 
 -- the lost cells of a map
 abbrev pub lostIn : List Bool → ℕ → Bool
 lostIn map c = getD map c false
+
+-- every lost cell exists
+abbrev pub OnlyThere : Shape → (ℕ → Bool) → Type 0
+OnlyThere s lost = (c : ℕ) → c < cells s → lost c ≡ true → cellThere s c ≡ true
 
 -- there are u lost cells, listed by rising number; or u is more than there are equations, and there are more lost cells than these
 pub record Listed (s : Shape) (map : List Bool) (u : ℕ) (lostCells : List ℕ) : Type 0 where

@@ -2,10 +2,10 @@
 ghost use mathlib.Core.Path.{_≡_};
 ghost use Prim.Native.Nat.{ℕ, _≤_, _<_};
 ghost use lib.ListN.{length, getD};
-ghost use Rattle.codes.specs.Shape.{columns, cells, WellFormed};
+ghost use Rattle.codes.specs.Shape.{columns, cells, existing, WellFormed};
 ghost use Rattle.codes.specs.Agree.{inColumns};
 ghost use Rattle.decide.specs.Survivors.{named};
-ghost use Rattle.decide.specs.Solver.{lostIn, Listed, Rows, Gathered, Decision};
+ghost use Rattle.decide.specs.Solver.{lostIn, OnlyThere, Listed, Rows, Gathered, Decision};
 use codes::Shape;
 use solve::Eliminated;
 
@@ -18,7 +18,7 @@ pub enum Decided {
 
 // The map of the cells that a caller's list names.
 pub fn mark_cells(shape: Shape, lost: &[usize]) -> [bool; codes::CELLS]
-    requires { ⌜ WellFormed shape × ((k : ℕ) → k < length (now lost) → getD (now lost) k 0 < cells shape) ⌝ }
+    requires { ⌜ WellFormed shape × ((k : ℕ) → k < length (now lost) → getD (now lost) k 0 < existing shape) ⌝ }
     ensures { λ r. ⌜ ((c : ℕ) → lostIn r c ≡ named shape (now (lost .entry)) c) ⌝ }
 {
     let mut map = [false; codes::CELLS];
@@ -52,7 +52,7 @@ fn list_lost(shape: Shape, map: [bool; codes::CELLS], listed: &mut [usize; bits:
     requires { ⌜ WellFormed shape × (length (now listed) ≡ 64) ⌝ }
     ensures { λ r. ⌜ Listed shape map r (now (listed .exit)) ⌝ }
 {
-    let n = codes::cell_count(shape);
+    let n = codes::cell_numbers(shape);
     let most = codes::equation_count(shape);
     let mut u = 0;
     let mut c = 0;
@@ -113,7 +113,8 @@ pub fn decide(
     sets: &mut [u64; bits::ROOM],
     checks: &mut [u64; bits::ROOM],
 ) -> Decided
-    requires { ⌜ WellFormed shape × (length (now listed) ≡ 64) × (length (now sets) ≡ 64) × (length (now checks) ≡ 64) ⌝ }
+    requires { ⌜ WellFormed shape × (length (now listed) ≡ 64) × (length (now sets) ≡ 64) × (length (now checks) ≡ 64)
+        × OnlyThere shape (lostIn map) ⌝ }
     ensures { λ r. ⌜ Decision shape (lostIn map) (now (listed .exit)) (now (sets .exit)) (now (checks .exit)) r ⌝ }
 {
     let u = list_lost(shape, map, listed);

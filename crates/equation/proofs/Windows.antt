@@ -22,8 +22,7 @@ use Rattle.codes.specs.Shape.{cells, equations, stripeLength, WellFormed}
 use Rattle.codes.specs.Geometry.{place}
 use Rattle.codes.specs.Encoded.{parityCell, byteAt, parityByte, total, fails}
 use Rattle.codes.specs.Lines.{Found, Holding}
-use Rattle.codes.proofs.Ordered.{ordered}
-use Rattle.codes.proofs.Geometry.{place-apart}
+use Rattle.codes.proofs.Geometry.{place-apart, parity-there, byte-there, byte-same}
 use Rattle.equation.specs.Window.{bytesAt, Window, ParitySet, failsIn}
 
 -- ---- an equation fails, or it holds
@@ -77,28 +76,26 @@ module _ (s : Shape) (stripe : List ℕ) (at n : ℕ) (w : Window s stripe at n)
   used-sum bytes t = first-sum places (r .count) few bytes t ∙ h .sum bytes t
 
   -- byte t of the parity cell
-  own-byte : (bytes : List ℕ) (t : ℕ) → byteAt s bytes (parityCell s q) t ≡ getD bytes (r .to + t) 0
-  unfolding byteAt
-  own-byte bytes t = ap (λ (x : ℕ). getD bytes (x + t) 0) (sym (h .to))
+  own-byte : q < equations s → (bytes : List ℕ) (t : ℕ) → byteAt s bytes (parityCell s q) t ≡ getD bytes (r .to + t) 0
+  own-byte lq bytes t = byte-there s (w .formed) bytes (parityCell s q) t (parity-there s (w .formed) q lq) ∙ ap (λ (x : ℕ). getD bytes (x + t) 0) (sym (h .to))
 
   pub parity-set : q < equations s → (new : List ℕ) → Put stripe (r .to + at) n (λ t. sumAt stripe (used r places) (at + t)) new → ParitySet s q at n stripe new
-  unfolding byteAt
   parity-set lq new put = record {
     long = put .long;
-    own = λ i l. own-byte new (at + i) ∙ ap (λ (x : ℕ). getD new x 0) (sym (add-assoc (r .to) at i)) ∙ put .inner i l ∙ used-sum stripe (at + i);
-    others = λ c lc t l off. put .outer (place s c + t) (by-equal c (parityCell s q)
+    own = λ i l. own-byte lq new (at + i) ∙ ap (λ (x : ℕ). getD new x 0) (sym (add-assoc (r .to) at i)) ∙ put .inner i l ∙ used-sum stripe (at + i);
+    others = λ c lc t l off. byte-same s (w .formed) new stripe c t (λ there. put .outer (place s c + t) (by-equal c (parityCell s q)
         (λ e. let same : place s c ≡ r .to = ap (place s) e ∙ sym (h .to) in
         by-less t at (λ lo. inl (omega (arith, same))) (λ lo. by-less t (at + n) (λ hi. absurd (off e lo hi)) (λ hi. inr (omega (arith, same)))))
-        (λ e. ⊎-elim (λ side. inl (omega (arith, h .to))) (λ side. inr (omega (arith, h .to, w .ends))) (place-apart s (w .formed) c (parityCell s q) lc (ordered s (w .formed) .inside q lq) e)));
+        (λ e. ⊎-elim (λ side. inl (omega (arith, h .to))) (λ side. inr (omega (arith, h .to, w .ends))) (place-apart s (w .formed) c (parityCell s q) there (parity-there s (w .formed) q lq) e))));
   }
 
   -- equation q fails where the run at its parity cell is not the sum
-  pub fails-used : (b : Bool) → Says ((t : ℕ) → t < n → withOwn stripe (used r places) (r .to) (at + t) ≡ 0) b → not b ≡ failsIn s stripe q at n
+  pub fails-used : q < equations s → (b : Bool) → Says ((t : ℕ) → t < n → withOwn stripe (used r places) (r .to) (at + t) ≡ 0) b → not b ≡ failsIn s stripe q at n
   unfolding withOwn total
-  fails-used b test =
+  fails-used lq b test =
       fails-says s stripe q at n b
       (says-zero n (λ t. withOwn stripe (used r places) (r .to) (at + t)) (λ t. total s q (bytesAt s stripe (at + t))) b
-      (λ t l. ap₂ _⊕_ (sym (own-byte stripe (at + t))) (used-sum stripe (at + t))) test)
+      (λ t l. ap₂ _⊕_ (sym (own-byte lq stripe (at + t))) (used-sum stripe (at + t))) test)
 
 -- ---- the places of all cells of the equation, its parity cell too
 

@@ -20,8 +20,8 @@ use Rattle.codes.specs.declared.Shape.{Shape}
 use Rattle.codes.specs.Shape.{cells, equations, stripeLength, WellFormed}
 use Rattle.codes.specs.Encoded.{byteAt, total}
 use Rattle.codes.proofs.Shapes.{small-equations}
-use Rattle.codes.specs.Geometry.{place}
-use Rattle.codes.proofs.Geometry.{place-apart}
+use Rattle.codes.specs.Geometry.{cellThere, place}
+use Rattle.codes.proofs.Geometry.{place-apart, byte-there, byte-same}
 use Rattle.codes.proofs.Solutions.{total-same}
 use Rattle.decide.specs.Solver.{summed, mended, Sets}
 use Rattle.equation.specs.Window.{bytesAt}
@@ -201,28 +201,26 @@ module _ (s : Shape) (w : WellFormed s) (list sets : List ℕ) where
   -- one lost cell more, in the bytes of one lane
   module _ (k at n : ℕ) (old mid new lanes : List ℕ) (h : Filled s list sets k at (at + n) old mid) (ends : at + n ≤ s .cell)
       (sum : (i : ℕ) → i < n → laneSum lanes (getD sets k 0) i ≡ summed s (getD sets k 0) (bytesAt s old (at + i)))
-      (inside : getD list k 0 < cells s) (put : Put mid (place s (getD list k 0) + at) n (λ i. getD mid (place s (getD list k 0) + at + i) 0 ⊕ laneSum lanes (getD sets k 0) i) new) where
+      (exists : cellThere s (getD list k 0) ≡ true) (put : Put mid (place s (getD list k 0) + at) n (λ i. getD mid (place s (getD list k 0) + at + i) 0 ⊕ laneSum lanes (getD sets k 0) i) new) where
     abbrev own : ℕ
     own = getD list k 0
 
     -- bytes that are not in the run
     unput : (c : ℕ) → c < cells s → (t : ℕ) → t < s .cell → (c ≡ own → at ≤ t → t < at + n → ⊥) → byteAt s new c t ≡ byteAt s mid c t
-    unfolding byteAt
     unput c lc t lt off =
-        put .outer (place s c + t)
+        byte-same s w new mid c t (λ here. put .outer (place s c + t)
         (by-equal c own
         (λ e. let same : place s c ≡ place s own = ap (place s) e in
         by-less t at (λ lo. inl (omega (arith, same))) (λ lo. by-less t (at + n) (λ hi. absurd (off e lo hi)) (λ hi. inr (omega (arith, same)))))
-        (λ e. ⊎-elim (λ z. inl (omega arith)) (λ z. inr (omega arith)) (place-apart s w c own lc inside e)))
+        (λ e. ⊎-elim (λ z. inl (omega arith)) (λ z. inr (omega arith)) (place-apart s w c own here exists e))))
 
     -- a byte of the lost cell
     put-at : (t : ℕ) → at ≤ t → t < at + n → byteAt s new own t ≡ byteAt s mid own t ⊕ summed s (getD sets k 0) (bytesAt s old t)
-    unfolding byteAt
     put-at t lo hi =
         let there : place s own + at + (t - at) ≡ place s own + t = omega arith in
         let whole : at + (t - at) ≡ t = omega arith in
-        ap (λ (i : ℕ). getD new i 0) (sym there) ∙ put .inner (t - at) (omega arith)
-        ∙ ap₂ _⊕_ (ap (λ (i : ℕ). getD mid i 0) there) (sum (t - at) (omega arith) ∙ ap (λ (i : ℕ). summed s (getD sets k 0) (bytesAt s old i)) whole)
+        byte-there s w new own t exists ∙ ap (λ (i : ℕ). getD new i 0) (sym there) ∙ put .inner (t - at) (omega arith)
+        ∙ ap₂ _⊕_ (ap (λ (i : ℕ). getD mid i 0) there ∙ sym (byte-there s w mid own t exists)) (sum (t - at) (omega arith) ∙ ap (λ (i : ℕ). summed s (getD sets k 0) (bytesAt s old i)) whole)
 
     out-of : (c : ℕ) → c < cells s → (t : ℕ) → t < s .cell → (leb at t && ltb t (at + n)) ≡ false → (at ≤ t → t < at + n → ⊥)
         → byteAt s new c t ≡ cond (leb at t && ltb t (at + n)) (mended s list sets (k + 1) (bytesAt s old t) c) (byteAt s old c t)
@@ -248,10 +246,10 @@ module _ (s : Shape) (w : WellFormed s) (list sets : List ℕ) where
 
   -- the same with the place as the code has it
   pub filled-at : (k at n : ℕ) (old mid new lanes : List ℕ) → Filled s list sets k at (at + n) old mid → at + n ≤ s .cell
-      → ((i : ℕ) → i < n → laneSum lanes (getD sets k 0) i ≡ summed s (getD sets k 0) (bytesAt s old (at + i))) → getD list k 0 < cells s → (to : ℕ) → to ≡ place s (getD list k 0)
+      → ((i : ℕ) → i < n → laneSum lanes (getD sets k 0) i ≡ summed s (getD sets k 0) (bytesAt s old (at + i))) → cellThere s (getD list k 0) ≡ true → (to : ℕ) → to ≡ place s (getD list k 0)
       → Put mid (to + at) n (λ i. getD mid (to + at + i) 0 ⊕ laneSum lanes (getD sets k 0) i) new → Filled s list sets (k + 1) at (at + n) old new
-  filled-at k at n old mid new lanes h ends sum inside to is put =
-      filled-more k at n old mid new lanes h ends sum inside (subst (λ (x : ℕ). Put mid (x + at) n (λ i. getD mid (x + at + i) 0 ⊕ laneSum lanes (getD sets k 0) i) new) is put)
+  filled-at k at n old mid new lanes h ends sum exists to is put =
+      filled-more k at n old mid new lanes h ends sum exists (subst (λ (x : ℕ). Put mid (x + at) n (λ i. getD mid (x + at + i) 0 ⊕ laneSum lanes (getD sets k 0) i) new) is put)
 
   pub filled-end : (k u from to : ℕ) (old new : List ℕ) → k ≡ u → Filled s list sets k from to old new → Filled s list sets u from to old new
   filled-end k u from to old new e h = subst (λ (n : ℕ). Filled s list sets n from to old new) e h

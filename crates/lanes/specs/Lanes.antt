@@ -10,6 +10,7 @@ use Rattle.xor.specs.Xor.{xors}
 use Rattle.bits.specs.Bit.{bit}
 use Rattle.codes.specs.declared.Shape.{Shape}
 use Rattle.codes.specs.Shape.{cells}
+use Rattle.codes.specs.Geometry.{cellThere}
 use Rattle.codes.specs.Encoded.{byteAt, total}
 use Rattle.equation.specs.Window.{bytesAt, Window}
 use Rattle.decide.specs.Solver.{summed, mended}
@@ -40,10 +41,11 @@ laneSum lanes set i = xors 64 (λ r. cond (bit r set) (getD lanes (r * lane + i)
 pub record Passes (s : Shape) (stripe : List ℕ) (n : ℕ) (checks : List ℕ) (t : ℕ) : Type 0 where
   pub zero : (j : ℕ) → j < n → summed s (getD checks j 0) (bytesAt s stripe t) ≡ 0
 
--- the first n numbers listed are cells
+-- the first n numbers listed are cells that exist
 pub record CellsIn (s : Shape) (n : ℕ) (lostCells : List ℕ) : Type 0 where
   pub long : length lostCells ≡ 64
   pub inside : (k : ℕ) → k < n → getD lostCells k 0 < cells s
+  pub there : (k : ℕ) → k < n → cellThere s (getD lostCells k 0) ≡ true
 
 -- the lanes of each of the first u sets sum to what the set gives, in bytes at to at + n
 pub record LanesOf (s : Shape) (stripe : List ℕ) (u : ℕ) (sets : List ℕ) (at n : ℕ) (lanes : List ℕ) : Type 0 where

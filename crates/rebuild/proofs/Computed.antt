@@ -7,7 +7,7 @@ use lib.Dec.{eqb}
 use lib.ListN.{getD}
 use borrow.Author.Tests.{eq-eqb, eqb-true, not-true, not-false}
 use Rattle.xor.specs.Sets.{any}
-use Rattle.xor.proofs.Cases.{by-test, clash}
+use Rattle.xor.proofs.Cases.{by-test, clash, not-passed}
 use Rattle.xor.proofs.Sets.{any-none, none-any}
 use Rattle.elimination.specs.Method.{State, Outcome, passed, stopped, run}
 use Rattle.elimination.specs.Verdict.{residue, rebuilt, Consistent}
@@ -17,8 +17,10 @@ use Rattle.codes.specs.Shape.{cells, equations, WellFormed}
 use Rattle.codes.specs.Encoded.{byteAt}
 use Rattle.codes.specs.Holders.{holds}
 use Rattle.codes.proofs.Parity.{same-bytes}
-use Rattle.codes.proofs.Built.{built, built-at}
+use Rattle.codes.proofs.Built.{built, Blank, built-at}
+use Rattle.codes.proofs.Geometry.{byte-missing, byte-small}
 use Rattle.decide.specs.Survivors.{Undetermined, Restores}
+use Rattle.decide.specs.Solver.{OnlyThere}
 use Rattle.equation.specs.Window.{bytesAt}
 use Rattle.decide.proofs.Stripes.{built-encoded}
 use Rattle.decide.proofs.Solving.{as-solution, as-solves, undetermined}
@@ -34,12 +36,12 @@ stops (passed state) = false
 stops (stopped c state) = true
 
 module _ (s : Shape) (w : WellFormed s) (lost : ℕ → Bool) where
-  pub stops-undetermined : stops (outcome s lost) ≡ true → Undetermined s lost
-  stops-undetermined = by (outcome s lost) refl
+  pub stops-undetermined : OnlyThere s lost → stops (outcome s lost) ≡ true → Undetermined s lost
+  stops-undetermined there = by (outcome s lost) refl
     where
       by : (o : Outcome) → outcome s lost ≡ o → stops o ≡ true → Undetermined s lost
       by (passed state) e p = clash p refl
-      by (stopped c state) e p = undetermined s w lost c (stopped-at (equations s) (cells s) (holds s) lost c state e)
+      by (stopped c state) e p = undetermined s w lost there c (stopped-at (equations s) (cells s) (holds s) lost c state e)
 
   pub passes-determined : stops (outcome s lost) ≡ false → Undetermined s lost → ⊥
   passes-determined = by (outcome s lost) refl
@@ -66,7 +68,7 @@ abbrev pub fits : Shape → (ℕ → Bool) → List ℕ → Outcome → Bool
 fits s lost stripe (passed state) = not (left s lost stripe state)
 fits s lost stripe (stopped c state) = false
 
-module _ (s : Shape) (w : WellFormed s) (lost : ℕ → Bool) (stripe : List ℕ) where
+module _ (s : Shape) (w : WellFormed s) (lost : ℕ → Bool) (there : OnlyThere s lost) (stripe : List ℕ) where
   consistent : (state : State) → left s lost stripe state ≡ false → (t : ℕ) → t < s .cell → Consistent (equations s) (cells s) (holds s) lost state (bytesAt s stripe t)
   consistent state none t l = record { zero = λ q lq free. eqb-true (rest q) 0 (not-false (eqb (rest q) 0) (ap (λ (b : Bool). not b && not (eqb (rest q) 0)) (sym free) ∙ no-residue q lq)) }
     where
@@ -77,19 +79,20 @@ module _ (s : Shape) (w : WellFormed s) (lost : ℕ → Bool) (stripe : List ℕ
       no-residue = any-none (equations s) (residual s lost state (bytesAt s stripe t)) (any-none (s .cell) (λ u. any (equations s) (residual s lost state (bytesAt s stripe u))) none t l)
 
   pub fits-restores : ((i : ℕ) → getD stripe i 0 < 256) → fits s lost stripe (outcome s lost) ≡ true → (x : List ℕ) × Restores s lost stripe x
-  unfolding byteAt
   fits-restores bytes = by (outcome s lost) refl
     where
       by : (o : Outcome) → outcome s lost ≡ o → fits s lost stripe o ≡ true → (x : List ℕ) × Restores s lost stripe x
       by (stopped c state) e p = clash p refl
       by (passed state) e p =
           let known = passed-all (equations s) (cells s) (holds s) lost state e in
-          let F : ℕ → ℕ → ℕ = λ t. rebuilt (equations s) (cells s) (holds s) lost state (bytesAt s stripe t) in (
+          let F : ℕ → ℕ → ℕ = λ t. rebuilt (equations s) (cells s) (holds s) lost state (bytesAt s stripe t) in
+          -- a cell that doesn't exist survives, as zero
+          let blank : Blank s F = λ t lt c l none. sym (known .agrees (bytesAt s stripe t) .same c l (not-passed (λ h. clash (there c l h) none))) ∙ byte-missing s w stripe c t none in (
             built s F,
             record {
-              is = built-encoded s w F (λ t l. known .bytes (bytesAt s stripe t) (λ c lc n. bytes _))
+              is = built-encoded s w F blank (λ t l. known .bytes (bytesAt s stripe t) (λ c lc n. byte-small s w stripe bytes c t))
                   (λ t l. as-solves s w (F t) (known .solves (bytesAt s stripe t) (consistent state (not-true (left s lost stripe state) p) t l)));
-              agree = record { same = λ c l n t lt. known .agrees (bytesAt s stripe t) .same c l n ∙ sym (built-at s w F c l t lt) };
+              agree = record { same = λ c l n t lt. known .agrees (bytesAt s stripe t) .same c l n ∙ sym (built-at s w F blank c l t lt) };
             },
           )
 
@@ -97,7 +100,7 @@ module _ (s : Shape) (w : WellFormed s) (lost : ℕ → Bool) (stripe : List ℕ
   unfit-none determined = by (outcome s lost) refl
     where
       by : (o : Outcome) → outcome s lost ≡ o → fits s lost stripe o ≡ false → (x : List ℕ) → Restores s lost stripe x → ⊥
-      by (stopped c state) e p x r = determined (stops-undetermined s w lost (ap stops e))
+      by (stopped c state) e p x r = determined (stops-undetermined s w lost there (ap stops e))
       by (passed state) e p x r = clash (not-false (left s lost stripe state) p) none
         where
           passes : (t : ℕ) → t < s .cell → Consistent (equations s) (cells s) (holds s) lost state (bytesAt s stripe t)

@@ -1,5 +1,5 @@
 -- What follows from the contracts of a rebuild: stripes that come back, the cell size and undetermined cells, and a list that names no cell.
-use mathlib.Core.Path.{_≡_, refl, sym, ap, subst}
+use mathlib.Core.Path.{_≡_, refl, sym, ap, subst, _∙_}
 use mathlib.Core.Logic.{_≢_}
 use mathlib.Core.List.{List, []}
 use mathlib.Core.Bool.{Bool, true, false, not}
@@ -11,7 +11,7 @@ use Rattle.xor.specs.Sets.{any}
 use Rattle.xor.proofs.Cases.{by-test, by-equal, clash}
 use Rattle.xor.proofs.Sets.{any-none, any-some}
 use Rattle.codes.specs.declared.Shape.{Shape}
-use Rattle.codes.specs.Shape.{mostCell, rows, columns, equations, cells, cellNumber, stripeLength, WellFormed}
+use Rattle.codes.specs.Shape.{mostCell, rows, columns, equations, cells, cellNumber, missing, stripeLength, WellFormed}
 use Rattle.codes.specs.Equations.{equation}
 use Rattle.codes.specs.Encoded.{parityCell, sumsCell, sumOver, Solves, byteAt, Encoded}
 use Rattle.codes.specs.Refusals.{refusal, cellsFaults, columnsFaults}
@@ -24,8 +24,8 @@ use Rattle.rebuild.specs.Rebuild.{Decides, RebuildsCells, RebuildsColumn
 use Rattle.equation.specs.Window.{bytesAt}
 use Rattle.decide.proofs.Stripes.{two-solutions}
 use Rattle.rebuild.proofs.OneAnswer.{restored-one}
-use Rattle.codes.specs.Geometry.{columnOf}
-use Rattle.codes.proofs.Geometry.{column-there}
+use Rattle.codes.specs.Geometry.{isThere, cellThere, columnOf}
+use Rattle.codes.proofs.Geometry.{column-there, byte-missing, byte-small}
 use Rattle.decide.proofs.Determined.{columns-determined}
 use Rattle.rebuild.proofs.Deciding.{eleven, twelve, done}
 
@@ -46,7 +46,7 @@ pub columns-come-back : (s : Shape) (a b : ℕ) (old x : List ℕ) → refusal (
     → Restores s (callersColumns s a b) old x → (answer : ℕ) (new : List ℕ) → RebuildsColumns s a b old answer new → (answer ≡ 0) × (new ≡ x)
 columns-come-back s a b old x right restores answer new h =
     let formed = columns-accepted s (length old) a b right in
-    come-back s (formed .0) (callersColumns s a b) (columns-determined s (formed .0) (columnOf s a) (columnOf s b) (column-there s a (formed .2)) (column-there s b (formed .3))) old x restores answer new (h .rebuilds .decides right)
+    come-back s (formed .0) (callersColumns s a b) (columns-determined s (formed .0) (columnOf s a) (columnOf s b) (column-there s (formed .0) a (formed .2)) (column-there s (formed .0) b (formed .3))) old x restores answer new (h .rebuilds .decides right)
 
 -- ---- undetermined is a matter of the equations and the lost cells, whatever the cell size
 
@@ -82,9 +82,9 @@ differ-at s w a b la lb n = by-test (any (s .cell) at) found none
     none p = absurd (n (same-bytes s w a b la lb (λ c lc t lt. eqb-true (byteAt s a c t) (byteAt s b c t)
         (not-false (eqb (byteAt s a c t) (byteAt s b c t)) (any-none (cells s) (differs t) (any-none (s .cell) at p t lt) c lc)))))
 
--- the same code and p, with cells of n bytes
+-- the same code, p and data columns, with cells of n bytes
 abbrev resized : Shape → ℕ → Shape
-resized s n = record { code = s .code; p = s .p; cell = n }
+resized s n = record { code = s .code; p = s .p; cell = n; width = s .width }
 
 module _ (s : Shape) (n : ℕ) where
   -- the equations are the same
@@ -93,12 +93,13 @@ module _ (s : Shape) (n : ℕ) where
   solves-any-cell f h = h
 
 pub undetermined-any-cell : (s : Shape) → WellFormed s → (n : ℕ) → 1 ≤ n → n ≤ mostCell → (lost : ℕ → Bool) → Undetermined s lost → Undetermined (resized s n) lost
-unfolding byteAt cells columns rows
+unfolding cells columns rows cellThere isThere missing
 undetermined-any-cell s w n low high lost u =
     let at = differ-at s w (u .one) (u .other) (u .oneIs .long) (u .otherIs .long) (u .differ) in
     let t = at .byte in
-    let w′ : WellFormed (resized s n) = record { codeLow = w .codeLow; codeHigh = w .codeHigh; prime = w .prime; cellLow = low; cellHigh = high } in
-    two-solutions (resized s n) w′ lost (bytesAt s (u .one) t) (bytesAt s (u .other) t) (λ c l. u .oneIs .bytes _) (λ c l. u .otherIs .bytes _)
+    let w′ : WellFormed (resized s n) = record { codeLow = w .codeLow; codeHigh = w .codeHigh; prime = w .prime; cellLow = low; cellHigh = high; wide = w .wide } in
+    two-solutions (resized s n) w′ lost (bytesAt s (u .one) t) (bytesAt s (u .other) t) (λ c l none. byte-missing s w (u .one) c t none ∙ sym (byte-missing s w (u .other) c t none))
+    (λ c l. byte-small s w (u .one) (u .oneIs .bytes) c t) (λ c l. byte-small s w (u .other) (u .otherIs .bytes) c t)
     (solves-any-cell s n (bytesAt s (u .one) t) (λ q l. u .oneIs .encoded .holds q l t (at .byteIn)))
     (solves-any-cell s n (bytesAt s (u .other) t) (λ q l. u .otherIs .encoded .holds q l t (at .byteIn)))
     (λ c l e. u .agree .same c l e t (at .byteIn)) (at .cell) (at .cellIn) (at .differ)

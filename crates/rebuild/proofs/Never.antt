@@ -36,7 +36,7 @@ no-eleven s bytes a b e = clash (given-applies order (columnsFaults s bytes a b)
 pub columns-never : (s : Shape) (a b : ℕ) (old : List ℕ) (answer : ℕ) (new : List ℕ) → Rebuilds s (callersColumns s a b) (refusal (columnsFaults s (length old) a b)) old answer new → answer ≢ 11
 columns-never s a b old answer new h e =
     by-equal (refusal (columnsFaults s (length old) a b)) 0
-    (λ z. let right = columns-accepted s (length old) a b z in columns-determined s (right .0) (columnOf s a) (columnOf s b) (column-there s a (right .2)) (column-there s b (right .3)) (eleven s (callersColumns s a b) old answer new (h .decides z) e))
+    (λ z. let right = columns-accepted s (length old) a b z in columns-determined s (right .0) (columnOf s a) (columnOf s b) (column-there s (right .0) a (right .2)) (column-there s (right .0) b (right .3)) (eleven s (callersColumns s a b) old answer new (h .decides z) e))
     (λ n. no-eleven s (length old) a b (sym (h .refused n .0) ∙ e))
 
 -- a rebuild of columns with the right numbers answers 12 exactly when no encoded stripe agrees with the survivors

@@ -3,7 +3,7 @@
 ghost use mathlib.Core.Path.{_≡_};
 ghost use lib.ListN.{length};
 ghost use Rattle.codes.specs.Shape.{stripeLength, WellFormed};
-ghost use Rattle.decide.specs.Solver.{lostIn};
+ghost use Rattle.decide.specs.Solver.{lostIn, OnlyThere};
 ghost use Rattle.rebuild.specs.Rebuild.{Decides, RebuildsCells, RebuildsColumns};
 ghost use Rattle.rebuild.specs.Clean.{CleanOrNot};
 use codes::Shape;
@@ -23,7 +23,7 @@ fn clean_or_not(shape: Shape, stripe: &[u8]) -> usize
 
 // Rebuilds the lost cells of a map: 0; or 11 where they are undetermined, or 12 where no encoded stripe agrees with the survivors.
 fn rebuild_lost(shape: Shape, stripe: &mut [u8], map: [bool; codes::CELLS]) -> usize
-    requires { ⌜ WellFormed shape × (length (now stripe) ≡ stripeLength shape) ⌝ }
+    requires { ⌜ WellFormed shape × (length (now stripe) ≡ stripeLength shape) × OnlyThere shape (lostIn map) ⌝ }
     ensures { λ r. ⌜ Decides shape (lostIn map) (now (stripe .entry)) r (now (stripe .exit)) ⌝ }
 {
     let mut listed = [0usize; bits::ROOM];

@@ -1,7 +1,7 @@
 -- For every stripe there is exactly one encoded stripe with the same data cells, and its bytes are bytes.
 use mathlib.Core.Path.{_≡_, refl, sym, _∙_, subst}
 use mathlib.Core.Logic.{_≢_}
-use mathlib.Core.Bool.{false, cond}
+use mathlib.Core.Bool.{true, false, cond}
 use mathlib.Core.List.{List}
 use Prim.Native.Nat.{ℕ, zero, suc, _+_, _/_, _%_, _<_}
 use native.Mathlib.Nat.{le-refl}
@@ -13,13 +13,14 @@ use Rattle.xor.specs.Xor.{_⊕_}
 use Rattle.xor.proofs.Cases.{by-test, by-less}
 use Rattle.codes.specs.declared.Shape.{Shape}
 use Rattle.codes.specs.Shape.{cells, equations, stripeLength, WellFormed}
-use Rattle.codes.specs.Geometry.{cellOf, place}
+use Rattle.codes.specs.Geometry.{cellThere, cellOf}
 use Rattle.codes.specs.Encoded.{parityCell, byteAt, isParity, Solves}
 use Rattle.codes.proofs.Ordered.{ordered}
 use Rattle.codes.proofs.Parity.{sum-same, sum-byte}
 use Rattle.stripe.specs.Encode.{EncodingOf}
 use Rattle.stripe.specs.Write.{Written, Alone}
-use Rattle.codes.proofs.Built.{built, built-long, built-at, built-byte}
+use Rattle.codes.proofs.Geometry.{byte-missing, byte-small, missing-plain}
+use Rattle.codes.proofs.Built.{built, Blank, built-long, built-at, built-byte}
 use Rattle.stripe.proofs.Encoding.{settled, holds, stays, one-encoding}
 use Rattle.stripe.proofs.Writing.{written-by}
 
@@ -35,12 +36,17 @@ module _ (s : Shape) (w : WellFormed s) (old : List ℕ) (long : length old ≡ 
   final : ℕ → ℕ → ℕ
   final t c = settled s (equations s) (λ d. byteAt s old d t) c
 
+  -- 0 in the cells that don't exist, which are no parity cells
+  blank : Blank s final
+  unfolding final
+  blank t lt c lc none = stays s w (λ d. byteAt s old d t) c (missing-plain s w c none) (equations s) (le-refl (equations s)) ∙ byte-missing s w old c t none
+
   encoding : List ℕ
   encoding = built s final
 
   encoding-at : (c : ℕ) → c < cells s → (t : ℕ) → t < s .cell → byteAt s encoding c t ≡ final t c
   unfolding encoding
-  encoding-at = built-at s w final
+  encoding-at = built-at s w final blank
 
   encodes : EncodingOf s old encoding
   unfolding encoding final
@@ -56,11 +62,11 @@ module _ (s : Shape) (w : WellFormed s) (old : List ℕ) (long : length old ≡ 
   }
 
   encoding-byte : ((i : ℕ) → getD old i 0 < 256) → (i : ℕ) → getD encoding i 0 < 256
-  unfolding encoding final byteAt
+  unfolding encoding final
   encoding-byte h i =
       by-less i (stripeLength s)
       (λ l. subst (λ (x : ℕ). x < 256) (sym (built-byte s final i l))
-      (settled-byte s (equations s) (λ d. byteAt s old d (i % s .cell)) (λ d. h (place s d + i % s .cell)) (cellOf s (i / s .cell))))
+      (settled-byte s (equations s) (λ d. byteAt s old d (i % s .cell)) (λ d. byte-small s w old h d (i % s .cell)) (cellOf s (i / s .cell))))
       (λ l. subst (λ (x : ℕ). x < 256) (sym (List·getD-eq-default encoding 0 (omega (arith, built-long s final)))) (omega arith))
 
   -- exactly one
@@ -74,7 +80,7 @@ module _ (s : Shape) (w : WellFormed s) (old : List ℕ) (long : length old ≡ 
 abbrev pub point : ℕ → ℕ → ℕ → ℕ
 point c x k = cond (eqb k c) x 0
 
-module _ (s : Shape) (w : WellFormed s) (c : ℕ) (inside : c < cells s) (plain : isParity s c ≡ false) where
+module _ (s : Shape) (w : WellFormed s) (c : ℕ) (inside : c < cells s) (there : cellThere s c ≡ true) (plain : isParity s c ≡ false) where
   -- x at cell c alone, encoded
   abbrev alone : ℕ → ℕ → ℕ
   alone x = settled s (equations s) (point c x)
@@ -95,7 +101,7 @@ module _ (s : Shape) (w : WellFormed s) (c : ℕ) (inside : c < cells s) (plain 
   pub written-alone : (old bytes new : List ℕ) → length new ≡ length old
       → ((k : ℕ) → k < cells s → (t : ℕ) → t < s .cell → byteAt s new k t ≡ byteAt s old k t ⊕ alone (byteAt s old c t ⊕ getD bytes t 0) k) → Written s c old bytes new
   written-alone old bytes =
-      written-by s w c inside old bytes (λ t. alone (byteAt s old c t ⊕ getD bytes t 0))
+      written-by s w c inside there old bytes (λ t. alone (byteAt s old c t ⊕ getD bytes t 0))
       (λ t. alone-own (byteAt s old c t ⊕ getD bytes t 0))
       (λ t. alone-data (byteAt s old c t ⊕ getD bytes t 0))
       (λ t. alone-solves (byteAt s old c t ⊕ getD bytes t 0))

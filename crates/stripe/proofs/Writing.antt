@@ -13,7 +13,7 @@ use borrow.Author.Tests.{eq-eqb, ne-eqb, eqb-true}
 use Rattle.xor.specs.Xor.{_⊕_}
 use Rattle.xor.specs.Runs.{changedBy, Beside, Put}
 use Rattle.xor.specs.Sets.{count}
-use Rattle.xor.proofs.Cases.{by-test, by-equal, and-left}
+use Rattle.xor.proofs.Cases.{by-test, by-equal, clash, and-left}
 use Rattle.xor.proofs.Algebra.{⊕-zero, ⊕-cancel}
 use Rattle.xor.proofs.Sets.{any-some}
 use Rattle.bits.specs.Bit.{bit, IsLowest}
@@ -21,17 +21,17 @@ use Rattle.bits.proofs.Bits.{bit-zero}
 use Rattle.bits.proofs.Masks.{clear-lowest}
 use Rattle.codes.specs.declared.Shape.{Shape}
 use Rattle.codes.specs.Shape.{cells, equations, cellNumber, WellFormed}
-use Rattle.codes.specs.Geometry.{place}
+use Rattle.codes.specs.Geometry.{cellThere, place}
 use Rattle.codes.specs.Encoded.{parityCell, byteAt, isParity, Solves}
 use Rattle.codes.specs.Depends.{unitOf, DependOn, WriteRight}
 use Rattle.codes.proofs.Ordered.{ordered}
 use Rattle.codes.proofs.Parity.{sum-same}
 use Rattle.codes.proofs.Positions.{cell-inside}
-use Rattle.codes.proofs.Geometry.{place-inside, place-apart}
+use Rattle.codes.proofs.Geometry.{place-inside, place-apart, cell-there-at, byte-there, byte-same, parity-there, missing-plain}
 use Rattle.codes.proofs.Units.{not-parity, unit-own, unit-parity, unit-data, unit-scaled}
 use Rattle.stripe.specs.Parts.{differs, Spread, FromCell}
 use Rattle.stripe.specs.Write.{Written, Depending}
-use Rattle.codes.proofs.Built.{built, built-long, built-at}
+use Rattle.codes.proofs.Built.{built, Blank, built-long, built-at}
 
 -- ---- where the runs are
 
@@ -44,6 +44,7 @@ write-from s n row column m from stripe bytes h at ls lb = record {
   cell = cellNumber s row column;
   at = at;
   inside = cell-inside s (h .formed) row column (h .cell .low) (h .cell .right);
+  there = cell-there-at s (h .formed) row column (h .cell .low) ∙ h .there;
   plain = h .cell .plain;
   whole = lb ∙ h .whole;
 }
@@ -51,24 +52,24 @@ write-from s n row column m from stripe bytes h at ls lb = record {
 module _ (s : Shape) (from : ℕ) (stripe bytes : List ℕ) (h : FromCell s stripe from bytes) where
   -- its run is inside a stripe as long
   pub from-fits : (mid : List ℕ) → length mid ≡ length stripe → from + length bytes ≤ length mid
-  from-fits mid same = omega (arith, same, h .at, h .whole, h .long, place-inside s (h .formed) (h .cell) (h .inside))
+  from-fits mid same = omega (arith, same, h .at, h .whole, h .long, place-inside s (h .formed) (h .cell) (h .inside) (h .there))
 
   -- and beside that of a parity cell
   pub part-fits : (mid : List ℕ) → length mid ≡ length stripe → (q to : ℕ) → to ≡ place s (parityCell s q) → q < equations s
       → (to + length bytes ≤ length mid) × (from + length bytes ≤ length mid) × Beside to from (length bytes)
   part-fits mid same q to e l = (
-    omega (arith, same, e, h .whole, h .long, place-inside s (h .formed) (parityCell s q) (ordered s (h .formed) .inside q l)),
+    omega (arith, same, e, h .whole, h .long, place-inside s (h .formed) (parityCell s q) (ordered s (h .formed) .inside q l) (parity-there s (h .formed) q l)),
     from-fits mid same,
     subst (λ (n : ℕ). Beside to from n) (sym (h .whole))
-        (⊎-elim (λ side. inl (omega (arith, e, h .at))) (λ side. inr (omega (arith, e, h .at))) (place-apart s (h .formed) (h .cell) (parityCell s q) (h .inside) (ordered s (h .formed) .inside q l) (not-parity s (h .cell) q (h .plain) l))),
+        (⊎-elim (λ side. inl (omega (arith, e, h .at))) (λ side. inr (omega (arith, e, h .at))) (place-apart s (h .formed) (h .cell) (parityCell s q) (h .there) (parity-there s (h .formed) q l) (not-parity s (h .cell) q (h .plain) l))),
   )
 
 -- a run that is put into a cell leaves the other cells
-beside : (s : Shape) (w : WellFormed s) (c to n : ℕ) (f : ℕ → ℕ) (old new : List ℕ) → c < cells s → to ≡ place s c → n ≡ s .cell → Put old to n f new
+beside : (s : Shape) (w : WellFormed s) (c to n : ℕ) (f : ℕ → ℕ) (old new : List ℕ) → cellThere s c ≡ true → to ≡ place s c → n ≡ s .cell → Put old to n f new
     → (k : ℕ) → k < cells s → k ≢ c → (t : ℕ) → t < s .cell → byteAt s new k t ≡ byteAt s old k t
-unfolding byteAt
-beside s w c to n f old new inside at whole put k lk other t lt =
-    put .outer (place s k + t) (⊎-elim (λ side. inl (omega (arith, at))) (λ side. inr (omega (arith, at, whole))) (place-apart s w k c lk inside other))
+beside s w c to n f old new there at whole put k lk other t lt =
+    byte-same s w new old k t
+    (λ here. put .outer (place s k + t) (⊎-elim (λ side. inl (omega (arith, at))) (λ side. inr (omega (arith, at, whole))) (place-apart s w k c here there other)))
 
 -- ---- the loop over the set m: the parity cells of its equations that are not in rest are done
 
@@ -99,18 +100,23 @@ module _ (s : Shape) (m from : ℕ) (bytes old : List ℕ) (h : FromCell s old f
     here : bit q rest ≡ true
     here = lowest .passes lq
 
+    -- a byte of the data cell
+    at-cell : (bytes : List ℕ) (t : ℕ) → getD bytes (from + t) 0 ≡ byteAt s bytes (h .cell) t
+    at-cell bytes t = ap (λ (i : ℕ). getD bytes (i + t) 0) (h .at) ∙ sym (byte-there s (h .formed) bytes (h .cell) t (h .there))
+
     -- its own parity cell: not changed before, and the data cell is as it was
     own : (t : ℕ) → t < s .cell → byteAt s new (parityCell s q) t ≡ byteAt s old (parityCell s q) t ⊕ d t
-    unfolding byteAt changedBy
+    unfolding changedBy
     own t lt =
-        ap (λ (i : ℕ). getD new (i + t) 0) (sym at)
+        byte-there s (h .formed) new (parityCell s q) t (parity-there s (h .formed) q l) ∙ ap (λ (i : ℕ). getD new (i + t) 0) (sym at)
         ∙ put .inner t (omega (arith, h .whole))
         ∙ ap₂ (λ (x y : ℕ). x ⊕ (y ⊕ getD bytes t 0))
-        (ap (λ (i : ℕ). getD mid (i + t) 0) at ∙ turn .so .added q l t lt ∙ ap₂ (λ (a b : Bool). getD old (place s (parityCell s q) + t) 0 ⊕ cond (a && not b) (d t) 0) (turn .within q here) here ∙ ⊕-zero (getD old (place s (parityCell s q) + t) 0))
-        (ap (λ (i : ℕ). getD mid (i + t) 0) (h .at) ∙ turn .so .kept .same (h .cell) (h .inside) (h .plain) t lt ∙ ap (λ (i : ℕ). getD old (i + t) 0) (sym (h .at)))
+        (ap (λ (i : ℕ). getD mid (i + t) 0) at ∙ sym (byte-there s (h .formed) mid (parityCell s q) t (parity-there s (h .formed) q l)) ∙ turn .so .added q l t lt
+        ∙ ap₂ (λ (a b : Bool). byteAt s old (parityCell s q) t ⊕ cond (a && not b) (d t) 0) (turn .within q here) here ∙ ⊕-zero (byteAt s old (parityCell s q) t))
+        (at-cell mid t ∙ turn .so .kept .same (h .cell) (h .inside) (h .plain) t lt ∙ sym (at-cell old t))
 
     others : (k : ℕ) → k < cells s → k ≢ parityCell s q → (t : ℕ) → t < s .cell → byteAt s new k t ≡ byteAt s mid k t
-    others = beside s (h .formed) (parityCell s q) to (length bytes) (changedBy mid to from bytes) mid new (ordered s (h .formed) .inside q l) at (h .whole) put
+    others = beside s (h .formed) (parityCell s q) to (length bytes) (changedBy mid to from bytes) mid new (parity-there s (h .formed) q l) at (h .whole) put
 
     pub spread-more : SpreadTo s m (bitAnd rest (rest - 1)) d old new
     spread-more = record {
@@ -137,22 +143,26 @@ module _ (s : Shape) (m from : ℕ) (bytes old : List ℕ) (h : FromCell s old f
 
 -- ---- what is written: the XOR with F t in byte t, where F t has the difference in the data cell, 0 in other data, and solves the equations
 
-module _ (s : Shape) (w : WellFormed s) (c : ℕ) (inside : c < cells s) (old bytes : List ℕ) (F : ℕ → ℕ → ℕ)
+module _ (s : Shape) (w : WellFormed s) (c : ℕ) (inside : c < cells s) (there : cellThere s c ≡ true) (old bytes : List ℕ) (F : ℕ → ℕ → ℕ)
     (own : (t : ℕ) → F t c ≡ byteAt s old c t ⊕ getD bytes t 0) (zeros : (t k : ℕ) → isParity s k ≡ false → k ≢ c → F t k ≡ 0) (solves : (t : ℕ) → Solves s (F t)) where
+  -- 0 in the cells that don't exist, as they are other data
+  blank : Blank s F
+  blank t lt k lk none = zeros t k (missing-plain s w k none) (λ e. clash there (ap (cellThere s) (sym e) ∙ none))
+
   pub written-by : (new : List ℕ) → length new ≡ length old → ((k : ℕ) → k < cells s → (t : ℕ) → t < s .cell → byteAt s new k t ≡ byteAt s old k t ⊕ F t k) → Written s c old bytes new
   written-by new long h = record {
     long = long;
     difference = built s F;
     alone = record {
       long = built-long s F;
-      own = λ t lt. built-at s w F c inside t lt ∙ own t;
-      zeros = λ k lk p n t lt. built-at s w F k lk t lt ∙ zeros t k p n;
+      own = λ t lt. built-at s w F blank c inside t lt ∙ own t;
+      zeros = λ k lk p n t lt. built-at s w F blank k lk t lt ∙ zeros t k p n;
       encoded = record {
         holds = λ q lq t lt.
-            built-at s w F (parityCell s q) (ordered s w .inside q lq) t lt ∙ solves t q lq ∙ sym (sum-same s q (λ k. byteAt s (built s F) k t) (F t) (λ k lk p. built-at s w F k lk t lt));
+            built-at s w F blank (parityCell s q) (ordered s w .inside q lq) t lt ∙ solves t q lq ∙ sym (sum-same s q (λ k. byteAt s (built s F) k t) (F t) (λ k lk p. built-at s w F blank k lk t lt));
       };
     };
-    sum = λ k lk t lt. h k lk t lt ∙ ap (λ (x : ℕ). byteAt s old k t ⊕ x) (sym (built-at s w F k lk t lt));
+    sum = λ k lk t lt. h k lk t lt ∙ ap (λ (x : ℕ). byteAt s old k t ⊕ x) (sym (built-at s w F blank k lk t lt));
   }
 
 module _ (s : Shape) (w : WellFormed s) (c : ℕ) (plain : isParity s c ≡ false) (m : ℕ) (h : DependOn s c m) where
@@ -166,12 +176,12 @@ module _ (s : Shape) (w : WellFormed s) (c : ℕ) (plain : isParity s c ≡ fals
   times-at x k false e = ap (λ (u : ℕ). cond (eqb u 1) x 0) e
 
   -- the set's parity cells, and then the data cell
-  pub written : c < cells s → (from n : ℕ) (bytes old mid new : List ℕ) → from ≡ place s c → n ≡ s .cell → Spread s (λ q. bit q m) (differs old from bytes) old mid → Put mid from n (λ t. getD bytes t 0) new
+  pub written : c < cells s → cellThere s c ≡ true → (from n : ℕ) (bytes old mid new : List ℕ) → from ≡ place s c → n ≡ s .cell → Spread s (λ q. bit q m) (differs old from bytes) old mid → Put mid from n (λ t. getD bytes t 0) new
       → Written s c old bytes new
-  unfolding times byteAt isParity
-  written inside from n bytes old mid new at whole parts put =
-      written-by s w c inside old bytes (λ t. times (differs old from bytes t))
-      (λ t. times-at (differs old from bytes t) c true (unit-own s w c m plain) ∙ ap (λ (i : ℕ). getD old (i + t) 0 ⊕ getD bytes t 0) at)
+  unfolding times isParity
+  written inside there from n bytes old mid new at whole parts put =
+      written-by s w c inside there old bytes (λ t. times (differs old from bytes t))
+      (λ t. times-at (differs old from bytes t) c true (unit-own s w c m plain) ∙ ap (λ (i : ℕ). i ⊕ getD bytes t 0) (at-cell old t))
       (λ t k p e. times-at (differs old from bytes t) k false (unit-data s w c m plain k p e))
       (λ t. unit-scaled s c m (differs old from bytes t) (h .solves))
       new (put .long ∙ parts .long) sum
@@ -179,15 +189,18 @@ module _ (s : Shape) (w : WellFormed s) (c : ℕ) (plain : isParity s c ≡ fals
       x : ℕ → ℕ
       x = differs old from bytes
 
+      at-cell : (bytes : List ℕ) (t : ℕ) → getD bytes (from + t) 0 ≡ byteAt s bytes c t
+      at-cell bytes t = ap (λ (i : ℕ). getD bytes (i + t) 0) at ∙ sym (byte-there s w bytes c t there)
+
       others : (k : ℕ) → k < cells s → k ≢ c → (t : ℕ) → t < s .cell → byteAt s new k t ≡ byteAt s mid k t
-      others = beside s w c from n (λ t. getD bytes t 0) mid new inside at whole put
+      others = beside s w c from n (λ t. getD bytes t 0) mid new there at whole put
 
       sum : (k : ℕ) → k < cells s → (t : ℕ) → t < s .cell → byteAt s new k t ≡ byteAt s old k t ⊕ times (x t) k
       sum k lk t lt =
           by-equal k c
-          (λ e. ap (λ (i : ℕ). getD new (i + t) 0) (ap (place s) e ∙ sym at) ∙ put .inner t (omega (arith, whole))
+          (λ e. ap (λ (i : ℕ). byteAt s new i t) e ∙ sym (at-cell new t) ∙ put .inner t (omega (arith, whole))
           ∙ sym (⊕-cancel (getD old (from + t) 0) (getD bytes t 0))
-          ∙ ap₂ _⊕_ (ap (λ (i : ℕ). getD old (i + t) 0) (at ∙ ap (place s) (sym e))) (sym (ap (times (x t)) e ∙ times-at (x t) c true (unit-own s w c m plain))))
+          ∙ ap₂ _⊕_ (at-cell old t ∙ ap (λ (i : ℕ). byteAt s old i t) (sym e)) (sym (ap (times (x t)) e ∙ times-at (x t) c true (unit-own s w c m plain))))
           (λ e. others k lk e t lt ∙ by-test (isParity s k) parity
           (λ p. parts .kept .same k lk p t lt ∙ sym (⊕-zero (byteAt s old k t)) ∙ ap (λ (y : ℕ). byteAt s old k t ⊕ y) (sym (times-at (x t) k false (unit-data s w c m plain k p e)))))
         where

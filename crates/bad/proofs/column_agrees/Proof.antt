@@ -4,7 +4,7 @@ use Prim.Native.Nat.{ℕ}
 use native.Mathlib.Omega.{arith}
 use lib.ListN.{length-replicate}
 use Rattle.decide.proofs.Solving.{is-solved, is-open}
-use Rattle.bad.proofs.Naming.{column-determined, column-says}
+use Rattle.bad.proofs.Naming.{column-only, column-determined, column-says}
 use borrow.Author.Needs.{needs}
 use Rattle.bad.proofs.column_agrees.Statement.{statement}
 use Rattle.bad.proofs.column_agrees.Tie as tie
@@ -13,7 +13,9 @@ mark-columns-requires : tie.Need-mark-columns-requires
 mark-columns-requires c κs = (c .before .pre .0 .formed, c .before .pre .1, omega (arith, c .before .pre .1))
 
 decide-requires : tie.Need-decide-requires
-decide-requires c κs = (c .before .before .before .before .before .pre .0 .formed, refl, refl, refl)
+decide-requires c κs =
+    let start = c .before .before .before .before .before in
+    (start .pre .0 .formed, refl, refl, refl, λ k l p. column-only (start .args .shape) (start .args .column) _ (c .before .before .before .mark-columns .ensures) (start .pre .2) k l p)
 
 enum-known-d : tie.Need-enum-known-d
 enum-known-d c = search needs

@@ -1,8 +1,11 @@
 -- `bad::name_column` meets its contract. The candidate is the only column that can explain the byte.
-use mathlib.Core.Path.{_∙_}
-use Prim.Native.Nat.{_<_}
+use mathlib.Core.Path.{_≡_, sym, _∙_, subst}
+use mathlib.Core.Bool.{true}
+use Prim.Native.Nat.{ℕ, _<_}
 use native.Mathlib.Omega.{arith}
-use Rattle.codes.specs.Shape.{columns}
+use Rattle.codes.specs.Shape.{columns, disks}
+use Rattle.codes.specs.Geometry.{isThere}
+use Rattle.codes.proofs.Geometry.{column-there, is-there}
 use Rattle.bad.proofs.Naming.{Sought, named-column, none-named, not-this}
 use borrow.Author.Needs.{needs}
 use Rattle.bad.proofs.name_column.Statement.{statement}
@@ -24,8 +27,8 @@ totals-at-requires c κs =
 candidate-requires : tie.Need-candidate-requires
 candidate-requires c κs = c .before .before .before .pre .0 .formed
 
-column-count-requires : tie.Need-column-count-requires
-column-count-requires c κs = c .before .before .before .before .pre .0 .formed
+disk-count-requires : tie.Need-disk-count-requires
+disk-count-requires c κs = c .before .before .before .before .pre .0 .formed
 
 -- what is known once the candidate is found
 sought : (c : tie.After-candidate) → let a = c .before .before .before .before .args in Sought (a .shape) (c .before .before .before .before .pre .0 .formed) (a .stripe .now) (a .at) (a .n) (c .candidate .result)
@@ -41,25 +44,36 @@ sought c = record {
 }
 
 returns : tie.Need-returns
-returns c = none-named _ _ _ _ _ _ (sought (c .before .before)) (c .if1 .taken ∙ c .before .column-count .ensures)
+returns c = none-named _ _ _ _ _ _ (sought (c .before .before)) (c .if1 .taken ∙ c .before .disk-count .ensures)
 
 -- the candidate is a column
-there : (c : tie.Else1) → c .before .before .candidate .result < columns (c .before .before .before .before .before .before .args .shape)
-there c = let other = c .if1 .left in omega (arith, c .before .before .candidate .ensures .most, c .before .column-count .ensures, other)
+there : (c : tie.Else1) → c .before .before .candidate .result < disks (c .before .before .before .before .before .before .args .shape)
+there c = let other = c .if1 .left in omega (arith, c .before .before .candidate .ensures .most, c .before .disk-count .ensures, other)
+
+column-of-requires : tie.Need-column-of-requires
+column-of-requires c κs = (c .before .before .before .before .before .before .pre .0 .formed, there c)
 
 column-agrees-requires : tie.Need-column-agrees-requires
-column-agrees-requires c κs = (c .before .before .before .before .before .before .pre .0, there c)
-
-lies-at-requires : tie.Need-lies-at-requires
-lies-at-requires c κs = (c .before .before .before .before .before .before .before .before .pre .0 .formed, there (c .before .before))
+column-agrees-requires c κs =
+    let start = c .before .before .before .before .before .before .before in
+    let s = start .args .shape in
+    let formed = start .pre .0 .formed in (
+      start .pre .0,
+      subst (λ (j : ℕ). j < columns s) (sym (c .column-of .ensures)) (column-there s formed _ (there (c .before))),
+      subst (λ (j : ℕ). isThere s j ≡ true) (sym (c .column-of .ensures)) (is-there s formed _),
+    )
 
 returns-2 : tie.Need-returns-2
 returns-2 c =
-    let agreed = c .before .before in
-    named-column _ _ _ _ _ _ (sought (agreed .before .before .before)) (there (agreed .before)) _ (c .lies-at .ensures) (agreed .column-agrees .ensures .yes (c .before .if2 .taken))
+    let agreed = c .before in
+    let turned = agreed .before in
+    named-column _ _ _ _ _ _ (sought (turned .before .before .before)) (there (turned .before)) _ (turned .column-of .ensures) (agreed .column-agrees .ensures .yes (c .if2 .taken))
 
 returns-3 : tie.Need-returns-3
-returns-3 c = not-this _ _ _ _ _ _ (sought (c .before .before .before .before)) (there (c .before .before)) (c .before .column-agrees .ensures .no (c .if2 .left))
+returns-3 c =
+    let agreed = c .before in
+    let turned = agreed .before in
+    not-this _ _ _ _ _ _ (sought (turned .before .before .before)) (there (turned .before)) _ (turned .column-of .ensures) (agreed .column-agrees .ensures .no (c .if2 .left))
 
 pub name-column-spec : {M : Type 1} → statement M
 name-column-spec =
@@ -69,9 +83,9 @@ name-column-spec =
     add-totals-at
     totals-at-requires
     candidate-requires
-    column-count-requires
+    disk-count-requires
     returns
+    column-of-requires
     column-agrees-requires
-    lies-at-requires
     returns-2
     returns-3)

@@ -17,7 +17,7 @@ equation-count-requires : tie.Need-equation-count-requires
 equation-count-requires c κs = c .before .before .pre .0
 
 returns : tie.Need-returns
-returns c = decision-more _ (c .before .before .before .before .pre .0) _ _ _ (c .before .before .list-lost .ensures) (omega (arith, c .before .equation-count .ensures, c .if1 .taken))
+returns c = decision-more _ (c .before .before .before .before .pre .0) _ (c .before .before .before .before .pre .4) _ _ (c .before .before .list-lost .ensures) (omega (arith, c .before .equation-count .ensures, c .if1 .taken))
 
 -- there are no more lost cells than equations
 few : (c : tie.Else1) → c .before .before .list-lost .result ≤ equations (c .before .before .before .before .args .shape)
@@ -51,7 +51,7 @@ gather-requires c κs =
       at .eliminate .ensures .longChosen,
       at .eliminate .ensures .longSources,
       at .before .before .before .before .before .before .before .before .before .before .before .pre .2,
-      chosen-small _ (at .before .before .before .before .before .before .before .before .before .before .before .pre .0) _ _ _ (at .before .before .before .before .before .before .before .before .before .list-lost .ensures) (few (at .before .before .before .before .before .before .before)) _ (at .before .before .before .before .hold-lost .ensures) _ _ _ _ (at .before .before .before .before .before .before .before .before .equation-count .ensures) (at .eliminate .ensures) _ (passed .e .given .1),
+      chosen-small _ (at .before .before .before .before .before .before .before .before .before .before .before .pre .0) _ (at .before .before .before .before .before .before .before .before .before .before .before .pre .4) _ _ (at .before .before .before .before .before .before .before .before .before .list-lost .ensures) (few (at .before .before .before .before .before .before .before)) _ (at .before .before .before .before .hold-lost .ensures) _ _ _ _ (at .before .before .before .before .before .before .before .before .equation-count .ensures) (at .eliminate .ensures) _ (passed .e .given .1),
     )
 
 list-members-requires : tie.Need-list-members-requires
@@ -66,13 +66,13 @@ gather-requires-2 c κs =
 returns-2 : tie.Need-returns-2
 returns-2 c =
     let at = c .before .before in
-    decision-open _ (at .before .before .before .before .before .before .before .before .before .before .before .pre .0) _ _ _ (at .before .before .before .before .before .before .before .before .before .list-lost .ensures) (few (at .before .before .before .before .before .before .before)) _ (at .before .before .before .before .hold-lost .ensures) _ _ _ _ (at .before .before .before .before .before .before .before .before .equation-count .ensures) (at .eliminate .ensures) (c .enum-told .given .1)
+    decision-open _ (at .before .before .before .before .before .before .before .before .before .before .before .pre .0) _ (at .before .before .before .before .before .before .before .before .before .before .before .pre .4) _ _ (at .before .before .before .before .before .before .before .before .before .list-lost .ensures) (few (at .before .before .before .before .before .before .before)) _ (at .before .before .before .before .hold-lost .ensures) _ _ _ _ (at .before .before .before .before .before .before .before .before .equation-count .ensures) (at .eliminate .ensures) (c .enum-told .given .1)
 
 returns-3 : tie.Need-returns-3
 returns-3 c =
     let passed = c .before .before .before .before .before .before .before .before .before .before .before in
     let at = passed .before .before in
-    decision-solved _ (at .before .before .before .before .before .before .before .before .before .before .before .pre .0) _ _ _ (at .before .before .before .before .before .before .before .before .before .list-lost .ensures) (few (at .before .before .before .before .before .before .before)) _ (at .before .before .before .before .hold-lost .ensures) _ _ _ _ (at .before .before .before .before .before .before .before .before .equation-count .ensures) (at .eliminate .ensures) _ (passed .e .given .1) _
+    decision-solved _ (at .before .before .before .before .before .before .before .before .before .before .before .pre .0) _ (at .before .before .before .before .before .before .before .before .before .before .before .pre .4) _ _ (at .before .before .before .before .before .before .before .before .before .list-lost .ensures) (few (at .before .before .before .before .before .before .before)) _ (at .before .before .before .before .hold-lost .ensures) _ _ _ _ (at .before .before .before .before .before .before .before .before .equation-count .ensures) (at .eliminate .ensures) _ (passed .e .given .1) _
     (c .before .before .before .before .before .before .gather .ensures) _ _ _ (c .before .before .before .before .list-members .ensures) (c .gather2 .ensures)
 
 pub decide-spec : {M : Type 1} → statement M

@@ -16,8 +16,8 @@ Inv-loop listed₀ map n most u₀ c₀ listed u c = (c ≤ n) × (u ≤ most) �
 abbrev μ-loop : tie.MeasureT-loop
 μ-loop listed₀ map n most u₀ c₀ listed u c = n - c
 
-cell-count-requires : tie.Need-cell-count-requires Inv-loop μ-loop
-cell-count-requires c κs = search needs
+cell-numbers-requires : tie.Need-cell-numbers-requires Inv-loop μ-loop
+cell-numbers-requires c κs = search needs
 
 equation-count-requires : tie.Need-equation-count-requires Inv-loop μ-loop
 equation-count-requires c κs = search needs
@@ -26,13 +26,13 @@ loop-holds : tie.Need-loop-holds Inv-loop μ-loop
 loop-holds c = (omega arith, omega arith, listed-none _ _ (c .before .before .pre .1))
 
 array-read-if1 : tie.Need-array-read-if1 Inv-loop μ-loop
-array-read-if1 c = omega (arith, c .before .before .before .cell-count .ensures, cells-high (c .before .before .before .before .args .shape) (c .before .before .before .before .pre .0))
+array-read-if1 c = omega (arith, c .before .before .before .cell-numbers .ensures, cells-high (c .before .before .before .before .args .shape) (c .before .before .before .before .pre .0))
 
 add-result : tie.Need-add-result Inv-loop μ-loop
 add-result c = omega (arith, c .before .before .before .before .equation-count .ensures, small-equations (c .before .before .before .before .before .before .args .shape) (c .before .before .before .before .before .before .pre .0))
 
 returns : tie.Need-returns Inv-loop μ-loop
-returns c = listed-more _ _ (c .before .before .before .loop .c) _ _ (omega (arith, c .before .before .before .before .before .cell-count .ensures)) (c .before .before .before .before .equation-count .ensures) (c .before .if1 .taken) (listed-is _ _ _ _ _ _ refl (sym (c .if2 .taken)) (c .before .before .before .loop .inv .2))
+returns c = listed-more _ _ (c .before .before .before .loop .c) _ _ (omega (arith, c .before .before .before .before .before .cell-numbers .ensures)) (c .before .before .before .before .equation-count .ensures) (c .before .if1 .taken) (listed-is _ _ _ _ _ _ refl (sym (c .if2 .taken)) (c .before .before .before .loop .inv .2))
 
 -- there is room for one more
 few : (c : tie.Else2 Inv-loop μ-loop) → c .before .before .before .loop .u < 64
@@ -66,7 +66,7 @@ loop-again c =
     )
 
 returns-2 : tie.Need-returns-2 Inv-loop μ-loop
-returns-2 c = listed-end _ _ (c .before .loop .c) _ _ (omega (arith, c .before .before .before .cell-count .ensures, c .before .loop .inv .0)) (omega (arith, c .before .before .equation-count .ensures, c .before .loop .inv .1)) (c .before .loop .inv .2)
+returns-2 c = listed-end _ _ (c .before .loop .c) _ _ (omega (arith, c .before .before .before .cell-numbers .ensures, c .before .loop .inv .0)) (omega (arith, c .before .before .equation-count .ensures, c .before .loop .inv .1)) (c .before .loop .inv .2)
 
 pub list-lost-spec : {M : Type 1} → statement M
 list-lost-spec =
@@ -74,7 +74,7 @@ list-lost-spec =
     (tie.spec
     Inv-loop
     μ-loop
-    cell-count-requires
+    cell-numbers-requires
     equation-count-requires
     loop-holds
     array-read-if1

@@ -28,7 +28,7 @@ returns : tie.Need-returns
 returns c =
     let start = c .before .before .before .before .before in
     let a = start .args in
-    fails-used (a .shape) (a .stripe .now) (a .at) (a .n) (start .pre .0) (a .q) _ _ (c .before .before .sources-of .ensures) _ (c .is-sum .ensures)
+    fails-used (a .shape) (a .stripe .now) (a .at) (a .n) (start .pre .0) (a .q) _ _ (c .before .before .sources-of .ensures) (start .pre .1) _ (c .is-sum .ensures)
 
 pub fails-spec : {M : Type 1} → statement M
 fails-spec =

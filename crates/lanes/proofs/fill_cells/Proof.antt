@@ -27,14 +27,15 @@ element-copy-out-place-of c = search needs
 place-of-requires : tie.Need-place-of-requires Inv-loop μ-loop
 place-of-requires c κs =
     let start = c .before .before .before .before .before in
-    (start .pre .0 .window .formed, start .pre .2 .inside (c .before .before .loop .k) (c .before .loop-test .taken))
+    (start .pre .0 .window .formed, start .pre .2 .inside (c .before .before .loop .k) (c .before .loop-test .taken), start .pre .2 .there (c .before .before .loop .k) (c .before .loop-test .taken))
 
 add-to : tie.Need-add-to Inv-loop μ-loop
 add-to c =
     let start = c .before .before .before .before .before .before in
     let w = start .pre .0 .window in
     let inside = start .pre .2 .inside (c .before .before .before .loop .k) (c .before .before .loop-test .taken) in
-    omega (arith, c .place-of .ensures, place-inside (start .args .shape) (w .formed) _ inside, length-high (start .args .shape) (w .formed), w .ends)
+    let there = start .pre .2 .there (c .before .before .before .loop .k) (c .before .before .loop-test .taken) in
+    omega (arith, c .place-of .ensures, place-inside (start .args .shape) (w .formed) _ inside there, length-high (start .args .shape) (w .formed), w .ends)
 
 mul-add-lanes : tie.Need-mul-add-lanes Inv-loop μ-loop
 mul-add-lanes c = search needs
@@ -47,10 +48,11 @@ add-lanes-requires c κs =
     let start = c .before .before .before .before .before .before .before .before in
     let turn = c .before .before .before .before .before .loop in
     let w = start .pre .0 .window in
-    let inside = start .pre .2 .inside (turn .k) (c .before .before .before .before .loop-test .taken) in (
+    let inside = start .pre .2 .inside (turn .k) (c .before .before .before .before .loop-test .taken) in
+    let there = start .pre .2 .there (turn .k) (c .before .before .before .before .loop-test .taken) in (
       start .pre .0 .space,
       start .pre .0 .few,
-      omega (arith, c .before .before .place-of .ensures, place-inside (start .args .shape) (w .formed) _ inside, w .long, w .ends, turn .inv .1 .long),
+      omega (arith, c .before .before .place-of .ensures, place-inside (start .args .shape) (w .formed) _ inside there, w .long, w .ends, turn .inv .1 .long),
     )
 
 add-k : tie.Need-add-k Inv-loop μ-loop
@@ -66,7 +68,7 @@ loop-again c =
     let below = c .before .before .before .before .before .before .before .loop-test .taken in (
       omega arith,
       filled-at _ (start .pre .0 .window .formed) _ _ (turn .k) (start .args .at) (start .args .n) _ (turn .stripe) _ _ (turn .inv .1) (start .pre .0 .window .ends)
-          (start .pre .3 .sum (turn .k) below) (start .pre .2 .inside (turn .k) below) _ (c .before .before .before .before .before .place-of .ensures) (c .before .before .add-lanes .ensures),
+          (start .pre .3 .sum (turn .k) below) (start .pre .2 .there (turn .k) below) _ (c .before .before .before .before .before .place-of .ensures) (c .before .before .add-lanes .ensures),
     )
 
 same-length : tie.Need-same-length Inv-loop μ-loop

@@ -27,7 +27,7 @@ fill-requires c κs =
       start .pre .0,
       start .pre .1,
       record { long = start .pre .2 .long; few = omega (arith, start .pre .2 .few); below = λ j l. start .pre .2 .below j (omega (arith, l)) },
-      record { long = start .pre .3 .long; inside = λ k l. start .pre .3 .inside k (omega (arith, l)) },
+      record { long = start .pre .3 .long; inside = λ k l. start .pre .3 .inside k (omega (arith, l)); there = λ k l. start .pre .3 .there k (omega (arith, l)) },
       c .before .before .before .before .survivors-agree .ensures .1,
     )
 

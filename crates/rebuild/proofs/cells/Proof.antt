@@ -2,6 +2,7 @@
 use mathlib.Core.Path.{sym, _∙_}
 use Rattle.codes.proofs.Refused.{cells-accepted}
 use Rattle.rebuild.proofs.Calls.{rebuilds-refused, rebuilds-decided, decided-long}
+use Rattle.decide.proofs.Marks.{named-there}
 use borrow.Author.Needs.{needs}
 use Rattle.rebuild.proofs.cells.Statement.{statement}
 use Rattle.rebuild.proofs.cells.Tie as tie
@@ -16,7 +17,8 @@ mark-cells-requires : tie.Need-mark-cells-requires
 mark-cells-requires c κs = let right = cells-accepted _ _ _ (sym (c .before .cells-refusal .ensures) ∙ c .if1 .left) in (right .0, right .2)
 
 rebuild-lost-requires : tie.Need-rebuild-lost-requires
-rebuild-lost-requires c κs = let right = cells-accepted _ _ _ (sym (c .before .before .before .cells-refusal .ensures) ∙ c .before .before .if1 .left) in (right .0, right .1)
+rebuild-lost-requires c κs = let right = cells-accepted _ _ _ (sym (c .before .before .before .cells-refusal .ensures) ∙ c .before .before .if1 .left) in
+    (right .0, right .1, λ d l p. named-there _ (right .0) _ d l (sym (c .before .mark-cells .ensures d) ∙ p))
 
 same-length : tie.Need-same-length
 same-length c = let right = cells-accepted _ _ _ (sym (c .before .before .before .before .before .before .cells-refusal .ensures) ∙ c .before .before .before .before .before .if1 .left) in decided-long _ _ _ _ _ (right .1) (c .before .before .rebuild-lost .ensures)

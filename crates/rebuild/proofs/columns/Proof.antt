@@ -5,6 +5,7 @@ use Rattle.codes.specs.Shape.{columns}
 use Rattle.codes.specs.Agree.{inColumns}
 use Rattle.codes.proofs.Refused.{columns-accepted}
 use Rattle.codes.proofs.Geometry.{column-there}
+use Rattle.decide.proofs.Marks.{columns-there}
 use Rattle.rebuild.proofs.Calls.{rebuilds-refused, rebuilds-decided, rebuilds-columns, decided-long}
 use borrow.Author.Needs.{needs}
 use Rattle.rebuild.proofs.columns.Statement.{statement}
@@ -27,13 +28,15 @@ mark-columns-requires c κs =
     let a = c .before .before .before .before .before .args in
     let right = columns-accepted _ _ _ _ (sym (c .before .before .before .columns-refusal .ensures) ∙ c .before .before .if1 .left) in (
       right .0,
-      subst (λ (j : ℕ). j < columns (a .shape)) (sym (c .before .column-of .ensures)) (column-there (a .shape) (a .a) (right .2)),
-      subst (λ (j : ℕ). j < columns (a .shape)) (sym (c .column-of2 .ensures)) (column-there (a .shape) (a .b) (right .3)),
+      subst (λ (j : ℕ). j < columns (a .shape)) (sym (c .before .column-of .ensures)) (column-there (a .shape) (right .0) (a .a) (right .2)),
+      subst (λ (j : ℕ). j < columns (a .shape)) (sym (c .column-of2 .ensures)) (column-there (a .shape) (right .0) (a .b) (right .3)),
     )
 
 rebuild-lost-requires : tie.Need-rebuild-lost-requires
 rebuild-lost-requires c κs =
-    let right = columns-accepted _ _ _ _ (sym (c .before .before .before .before .before .columns-refusal .ensures) ∙ c .before .before .before .before .if1 .left) in (right .0, right .1)
+    let right = columns-accepted _ _ _ _ (sym (c .before .before .before .before .before .columns-refusal .ensures) ∙ c .before .before .before .before .if1 .left) in
+    let s = c .before .before .before .before .before .before .before .args .shape in
+    (right .0, right .1, λ d l p. columns-there s (right .0) _ _ d l (sym (c .before .mark-columns .ensures d l ∙ ap₂ (λ (x y : ℕ). inColumns s x y d) (c .before .before .before .column-of .ensures) (c .before .before .column-of2 .ensures)) ∙ p))
 
 same-length : tie.Need-same-length
 same-length c =

@@ -10,7 +10,7 @@ use Rattle.rebuild.proofs.rebuild_lost.Statement.{statement}
 use Rattle.rebuild.proofs.rebuild_lost.Tie as tie
 
 decide-requires : tie.Need-decide-requires
-decide-requires c κs = (c .before .before .before .before .pre .0, refl, refl, refl)
+decide-requires c κs = (c .before .before .before .before .pre .0, refl, refl, refl, c .before .before .before .before .pre .2)
 
 enum-known-d : tie.Need-enum-known-d
 enum-known-d c = search needs
@@ -43,7 +43,7 @@ mend-requires c κs =
     let decided = known .before .before in
     let start = decided .before .before .before .before .before in
     let solver = is-solved _ _ _ _ _ _ (decided .decide .ensures) _ _ (known .d .given .1) in
-    (start .pre .0, start .pre .1, solver .gives, record { long = solver .longCells; inside = solver .listed .inside }, solver .tests)
+    (start .pre .0, start .pre .1, solver .gives, record { long = solver .longCells; inside = solver .listed .inside; there = λ k l. start .pre .2 _ (solver .listed .inside k l) (solver .listed .isLost k l) }, solver .tests)
 
 same-length-2 : tie.Need-same-length-2
 same-length-2 c = mends-long _ _ _ _ _ _ _ _ _ (c .before .before .mend .ensures)

@@ -3,13 +3,14 @@ use mathlib.Core.Path.{refl, sym, _∙_}
 use borrow.Author.Needs.{needs}
 use Rattle.codes.specs.Shape.{cellNumber}
 use Rattle.codes.proofs.Positions.{cell-inside}
+use Rattle.codes.proofs.Geometry.{cell-there-at}
 use Rattle.codes.proofs.Units.{depend-count}
 use Rattle.stripe.proofs.Writing.{write-from, from-fits, written, depending}
 use Rattle.stripe.proofs.write_cell.Statement.{statement}
 use Rattle.stripe.proofs.write_cell.Tie as tie
 
 cell-place-requires : tie.Need-cell-place-requires
-cell-place-requires c κs = (c .before .before .pre .formed, c .before .before .pre .cell .low, c .before .before .pre .cell .right)
+cell-place-requires c κs = (c .before .before .pre .formed, c .before .before .pre .cell .low, c .before .before .pre .cell .right, c .before .before .pre .there)
 
 dependents-of-requires : tie.Need-dependents-of-requires
 dependents-of-requires c κs = (c .before .before .before .pre .formed, c .before .before .before .pre .cell)
@@ -37,6 +38,7 @@ returns c =
     let set = c .before .before .before .before .before .before .before .before .before .dependents-of in
     let plain = start .pre .cell .plain in (
       written (start .args .shape) (start .pre .formed) cell plain (set .result) (set .ensures) (cell-inside (start .args .shape) (start .pre .formed) (start .args .row) (start .args .column) (start .pre .cell .low) (start .pre .cell .right))
+          (cell-there-at (start .args .shape) (start .pre .formed) (start .args .row) (start .args .column) (start .pre .cell .low) ∙ start .pre .there)
           _ _ (start .args .new .now) (start .args .stripe .now) _ _ (c .before .before .before .before .before .before .before .before .before .before .cell-place .ensures) (start .pre .whole) (c .before .before .before .before .before .before .before .spread .ensures) (c .before .before .before .put-run .ensures),
       depending (start .args .shape) (start .pre .formed) cell plain (set .result) (set .ensures) _ (depend-count (start .args .shape) (start .pre .formed) cell (set .result) plain (set .ok) (set .ensures) ∙ sym (c .count-members .ensures)),
     )
