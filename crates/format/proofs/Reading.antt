@@ -6,6 +6,7 @@ use native.Mathlib.Omega.{arith}
 use lib.ListN.{length, getD, take, drop, length-drop, drop-of-length-le}
 use Rattle.xor.proofs.Runs.{part-long}
 use Rattle.codes.specs.declared.Shape.{Shape}
+use Rattle.codes.specs.declared.Width.the-variants.{Full}
 use Rattle.format.specs.declared.Content.the-variants.{Missing}
 use Rattle.format.specs.declared.Tail.the-variants.{NoEnd}
 use Rattle.format.specs.Format.{mostLost, mostStripe, absentCell, twoBytes, field, numbers, CellSize, absent, given, Job, cellField, jobBytes, Fits}
@@ -49,19 +50,21 @@ module _ (input : List ℕ) (first : FieldAt input 0 1 1) (second : FieldAt inpu
   begin : input ≡ field 1 (getD input 3 0 ∷ []) ++ (field 2 (getD input 7 0 ∷ []) ++ drop 8 input)
   begin = byte-field input 0 1 first ∙ ap (λ (b : List ℕ). field 1 (getD input 3 0 ∷ []) ++ b) (byte-field input 4 2 second)
 
-  pub begins-given : FieldAt input 8 3 2 → (cell : ℕ) → twoBytes cell ≡ take 2 (drop 11 input) → Begins input (record { code = getD input 3 0; p = getD input 7 0; cell = cell }) 13
+  pub begins-given : FieldAt input 8 3 2 → (cell : ℕ) → twoBytes cell ≡ take 2 (drop 11 input) → Begins input (record { code = getD input 3 0; p = getD input 7 0; cell = cell; width = Full }) 13
   begins-given third cell e = record {
     size = given cell;
     cell = refl;
+    full = refl;
     inside = third .inside;
     is = begin ∙ ap (λ (b : List ℕ). field 1 (getD input 3 0 ∷ []) ++ (field 2 (getD input 7 0 ∷ []) ++ b)) (third .is ∙ ap (λ (b : List ℕ). field 3 b ++ drop 13 input) (sym e));
     rest = λ j f. after-given input third (j .cell) _ _ (after-p input j f);
   }
 
-  pub begins-absent : (FieldAt input 8 3 2 → ⊥) → Begins input (record { code = getD input 3 0; p = getD input 7 0; cell = absentCell }) 8
+  pub begins-absent : (FieldAt input 8 3 2 → ⊥) → Begins input (record { code = getD input 3 0; p = getD input 7 0; cell = absentCell; width = Full }) 8
   begins-absent none = record {
     size = absent;
     cell = refl;
+    full = refl;
     inside = second .inside;
     is = begin;
     rest = λ j f. after-absent input (second .inside) none (j .cell) _ _ (after-p input j f);
@@ -136,7 +139,7 @@ module _ (input : List ℕ) (s : Shape) (next : ℕ) (begins : Begins input s ne
         record {
           fits = record { few = omega (arith, found .2, e .few); short = omega (arith, long, e .short) };
           is = ap front rest ∙ sym (begins .is);
-          shape = λ i. record { code = s .code; p = s .p; cell = begins .cell i };
+          shape = λ i. record { code = s .code; p = s .p; cell = begins .cell i; width = begins .full i };
           count = sym (found .2);
           lost = found .1;
           lostEnd = e .lost .inside;

@@ -3,6 +3,7 @@ use mathlib.Core.List.{List, [], _∷_, _++_}
 use Prim.Native.Nat.{ℕ, zero, suc, _/_, _%_, _≤_}
 use lib.ListN.{length}
 use Rattle.codes.specs.declared.Shape.{Shape}
+use Rattle.codes.specs.declared.Width.the-variants.{Full}
 
 -- how many lost cell numbers a job may have
 abbrev pub mostLost : ℕ
@@ -65,9 +66,9 @@ pub record Fits (j : Job) : Type 0 where
   pub few : length (j .lost) ≤ mostLost
   pub short : length (j .stripe) ≤ mostStripe
 
--- the shape of a job's stripe
+-- the shape of a job's stripe, which is of full width
 abbrev pub shapeOf : Job → Shape
-shapeOf j = record { code = j .code; p = j .p; cell = cellSize (j .cell) }
+shapeOf j = record { code = j .code; p = j .p; cell = cellSize (j .cell); width = Full }
 
 -- the bytes of an answer: field 06 with 0 or the refusal number, and after 0 field 05 with the stripe
 unfoldable pub answerBytes : ℕ → List ℕ → List ℕ

@@ -5,6 +5,7 @@ use mathlib.Core.List.{List, [], _∷_, _++_}
 use Prim.Native.Nat.{ℕ, _+_, _*_, _≤_}
 use lib.ListN.{length, take, drop}
 use Rattle.codes.specs.declared.Shape.{Shape}
+use Rattle.codes.specs.declared.Width.the-variants.{Full}
 use Rattle.format.specs.declared.Content.{Content}
 use Rattle.format.specs.declared.Content.the-variants.{There, Missing}
 use Rattle.format.specs.declared.Numbers.{Numbers}
@@ -32,6 +33,7 @@ FindsField input at tag most Missing = (n : ℕ) → n ≤ most → FieldAt inpu
 pub record Begins (input : List ℕ) (s : Shape) (next : ℕ) : Type 0 where
   pub size : CellSize
   pub cell : s .cell ≡ cellSize size
+  pub full : s .width ≡ Full
   pub inside : next ≤ length input
   pub is : input ≡ field 1 (s .code ∷ []) ++ (field 2 (s .p ∷ []) ++ (cellField size ++ drop next input))
   pub rest : (j : Job) → jobBytes j ≡ input → field 4 (numbers (j .lost)) ++ field 5 (j .stripe) ≡ drop next input

@@ -6,6 +6,7 @@ ghost use Rattle.format.specs.Format.{twoBytes};
 ghost use Rattle.format.specs.Places.{HasField, FindsField, FindsNumbers, FindsTail};
 ghost use Rattle.format.specs.Reading.{Reads};
 use codes::Shape;
+use codes::Width;
 
 // How many lost cell numbers a job may have.
 pub const MOST_LOST: usize = 2048;
@@ -109,13 +110,19 @@ fn read_numbers(input: &[u8]) -> Numbers
     let p = input[7] as usize;
     if has_field(input, 8, 3, 2) {
         let cell = two_bytes(input, 11);
-        let shape = Shape { code, p, cell };
+        let shape = Shape {
+            code,
+            p,
+            cell,
+            width: Width::Full,
+        };
         Numbers::Begin { shape, next: 13 }
     } else {
         let shape = Shape {
             code,
             p,
             cell: ABSENT_CELL,
+            width: Width::Full,
         };
         Numbers::Begin { shape, next: 8 }
     }

@@ -66,7 +66,7 @@ first-most (n ∷ numbers) faults = either′ (applies faults n) (firstOf number
 
 refusal-small : (faults : List Fault) → refusal faults < 256
 unfolding refusal order sum
-refusal-small faults = let most : firstOf order faults ≤ 91 = first-most order faults in omega arith
+refusal-small faults = let most : firstOf order faults ≤ 105 = first-most order faults in omega arith
 
 pub answer-small : (s : Shape) (lost old : List ℕ) (answer : ℕ) (new : List ℕ) → RebuildsCells s lost old answer new → answer < 256
 answer-small s lost old answer new r = by-equal (refusal (cellsFaults s (length old) lost)) 0 right wrong

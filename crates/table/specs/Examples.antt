@@ -4,6 +4,7 @@ use mathlib.Core.List.{List, [], _∷_, _++_}
 use Prim.Native.Nat.{ℕ, _*_}
 use lib.ListN.{length, replicate}
 use Rattle.codes.specs.declared.Shape.{Shape}
+use Rattle.codes.specs.declared.Width.the-variants.{Full}
 use Rattle.codes.specs.declared.Counted.the-variants.{Count, Refused}
 use Rattle.codes.specs.Shape.{rows, cellNumber, stripeLength, WellFormed}
 use Rattle.codes.specs.Encoded.{Encoded}
@@ -43,11 +44,11 @@ pub record Example : Type 0 where
 
 -- RDP, H-Code and X-Code with p = 3 and cells of one byte
 abbrev pub small : ℕ → Shape
-small code = record { code = code; p = 3; cell = 1 }
+small code = record { code = code; p = 3; cell = 1; width = Full }
 
 -- RDP with p = 5 and cells of one byte
 abbrev pub five : Shape
-five = record { code = 1; p = 5; cell = 1 }
+five = record { code = 1; p = 5; cell = 1; width = Full }
 
 -- the number of its cell (row, column)
 abbrev pub at : ℕ → ℕ → ℕ

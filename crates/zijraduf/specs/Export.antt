@@ -1,6 +1,9 @@
 -- What the exported functions promise where their answers differ in form from the Rattle calls': enums in numbers.
 use mathlib.Core.Path.{_≡_}
+use mathlib.Core.Bool.{cond}
+use lib.Dec.{eqb}
 use Rattle.codes.specs.declared.Shape.{Shape}
+use Rattle.codes.specs.declared.Width.the-variants.{Full, Data}
 use Rattle.codes.specs.declared.Counted.{Counted}
 use Rattle.codes.specs.declared.Counted.the-variants.{Count as Number, Refused as CountRefused}
 use Rattle.bad.specs.declared.BadColumn.{BadColumn}
@@ -9,10 +12,15 @@ use Rattle.plan.specs.declared.PlanAnswer.{PlanAnswer}
 use Rattle.plan.specs.declared.PlanAnswer.the-variants.{Plan, Refused as PlanRefused}
 use Rattle.show.specs.declared.ShownAt.{ShownAt}
 use Rattle.show.specs.declared.ShownAt.the-variants.{Stripe, Spare, Refused as ShowRefused}
+use Rattle.zijraduf.specs.declared.ShapeNumbers.{ShapeNumbers}
 use Rattle.zijraduf.specs.declared.Count.{Count}
 use Rattle.zijraduf.specs.declared.Found.{Found}
 use Rattle.zijraduf.specs.declared.Planned.{Planned}
 use Rattle.zijraduf.specs.declared.Part.{Part}
+
+-- the shape that numbers describe: a number m of data columns is given where `given` is not 0, and is not looked at where it is
+abbrev pub shapeFrom : ShapeNumbers → Shape
+shapeFrom n = record { code = n .code; p = n .p; cell = n .cell; width = cond (eqb (n .given) 0) Full (Data (n .m)) }
 
 -- an exported function gives the numbers of an answer that the Rattle call may give
 pub record InNumbers {A B : Type 0} (numbers : A → B) (Allowed : A → Type 0) (answer : B) : Type 0 where

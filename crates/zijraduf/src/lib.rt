@@ -10,12 +10,23 @@ ghost use Rattle.spare.specs.Run.{RunsByPlan};
 ghost use Rattle.show.specs.Show.{Shown};
 ghost use Rattle.jobs.specs.Answer.{AnswersInto};
 ghost use Rattle.rebuild.specs.Rebuild.{RebuildsCells, RebuildsColumns};
-ghost use Rattle.zijraduf.specs.Export.{InNumbers, countInNumbers, foundInNumbers, planInNumbers, shownInNumbers};
+ghost use Rattle.zijraduf.specs.Export.{shapeFrom, InNumbers, countInNumbers, foundInNumbers, planInNumbers, shownInNumbers};
 use bad::BadColumn;
 use codes::Counted;
 use codes::Shape;
+use codes::Width;
 use show::ShownAt;
 use spare::PlanAnswer;
+
+// What describes a stripe, in numbers: its code, its prime, the bytes in a cell, and a number m of data columns, where `given` is not 0.
+#[repr(C)]
+pub struct ShapeNumbers {
+    pub code: usize,
+    pub p: usize,
+    pub cell: usize,
+    pub given: usize,
+    pub m: usize,
+}
 
 // A refusal number, or 0 and a count.
 #[repr(C)]
@@ -49,6 +60,29 @@ pub struct Part {
     pub length: usize,
 }
 
+// The shape that the numbers describe.
+fn shape_from(numbers: ShapeNumbers) -> Shape
+    ensures { λ r. ⌜ r ≡ shapeFrom numbers ⌝ }
+{
+    let code = numbers.code;
+    let p = numbers.p;
+    let cell = numbers.cell;
+    if numbers.given == 0 {
+        return Shape {
+            code,
+            p,
+            cell,
+            width: Width::Full,
+        };
+    }
+    Shape {
+        code,
+        p,
+        cell,
+        width: Width::Data(numbers.m),
+    }
+}
+
 // A count or a refusal in two numbers.
 fn in_numbers(answer: Counted) -> Count
     ensures { λ r. ⌜ r ≡ countInNumbers answer ⌝ }
@@ -61,61 +95,61 @@ fn in_numbers(answer: Counted) -> Count
 
 // Encode.
 #[no_mangle]
-pub extern "C" fn zijraduf_encode(shape: Shape, stripe: &mut [u8]) -> usize
-    ensures { λ r. ⌜ Encodes shape (now (stripe .entry)) r (now (stripe .exit)) ⌝ }
+pub extern "C" fn zijraduf_encode(shape: ShapeNumbers, stripe: &mut [u8]) -> usize
+    ensures { λ r. ⌜ Encodes (shapeFrom shape) (now (stripe .entry)) r (now (stripe .exit)) ⌝ }
 {
-    stripe::encode(shape, stripe)
+    stripe::encode(shape_from(shape), stripe)
 }
 
 // Broken.
 #[no_mangle]
-pub extern "C" fn zijraduf_broken(shape: Shape, stripe: &[u8]) -> Count
-    ensures { λ r. ⌜ InNumbers countInNumbers (Counts shape (now (stripe .entry))) r ⌝ }
+pub extern "C" fn zijraduf_broken(shape: ShapeNumbers, stripe: &[u8]) -> Count
+    ensures { λ r. ⌜ InNumbers countInNumbers (Counts (shapeFrom shape) (now (stripe .entry))) r ⌝ }
 {
-    in_numbers(stripe::broken(shape, stripe))
+    in_numbers(stripe::broken(shape_from(shape), stripe))
 }
 
 // Small write.
 #[no_mangle]
 pub extern "C" fn zijraduf_write(
-    shape: Shape,
+    shape: ShapeNumbers,
     stripe: &mut [u8],
     row: usize,
     column: usize,
     bytes: &[u8],
 ) -> Count
-    ensures { λ r. ⌜ InNumbers countInNumbers (Writes shape row column (now (bytes .entry)) (now (stripe .entry)) (now (stripe .exit))) r ⌝ }
+    ensures { λ r. ⌜ InNumbers countInNumbers (Writes (shapeFrom shape) row column (now (bytes .entry)) (now (stripe .entry)) (now (stripe .exit))) r ⌝ }
 {
-    in_numbers(stripe::write(shape, stripe, row, column, bytes))
+    in_numbers(stripe::write(shape_from(shape), stripe, row, column, bytes))
 }
 
 // Rebuild cells.
 #[no_mangle]
-pub extern "C" fn zijraduf_rebuild_cells(shape: Shape, stripe: &mut [u8], lost: &[usize]) -> usize
-    ensures { λ r. ⌜ RebuildsCells shape (now (lost .entry)) (now (stripe .entry)) r (now (stripe .exit)) ⌝ }
+pub extern "C" fn zijraduf_rebuild_cells(shape: ShapeNumbers, stripe: &mut [u8], lost: &[usize]) -> usize
+    ensures { λ r. ⌜ RebuildsCells (shapeFrom shape) (now (lost .entry)) (now (stripe .entry)) r (now (stripe .exit)) ⌝ }
 {
-    rebuild::cells(shape, stripe, lost)
+    rebuild::cells(shape_from(shape), stripe, lost)
 }
 
 // Rebuild columns.
 #[no_mangle]
 pub extern "C" fn zijraduf_rebuild_columns(
-    shape: Shape,
+    shape: ShapeNumbers,
     stripe: &mut [u8],
     a: usize,
     b: usize,
 ) -> usize
-    ensures { λ r. ⌜ RebuildsColumns shape a b (now (stripe .entry)) r (now (stripe .exit)) ⌝ }
+    ensures { λ r. ⌜ RebuildsColumns (shapeFrom shape) a b (now (stripe .entry)) r (now (stripe .exit)) ⌝ }
 {
-    rebuild::columns(shape, stripe, a, b)
+    rebuild::columns(shape_from(shape), stripe, a, b)
 }
 
 // Bad column.
 #[no_mangle]
-pub extern "C" fn zijraduf_bad_column(shape: Shape, stripe: &[u8]) -> Found
-    ensures { λ r. ⌜ InNumbers foundInNumbers (Finds shape (now (stripe .entry))) r ⌝ }
+pub extern "C" fn zijraduf_bad_column(shape: ShapeNumbers, stripe: &[u8]) -> Found
+    ensures { λ r. ⌜ InNumbers foundInNumbers (Finds (shapeFrom shape) (now (stripe .entry))) r ⌝ }
 {
-    match bad::bad_column(shape, stripe) {
+    match bad::bad_column(shape_from(shape), stripe) {
         BadColumn::Clean => Found {
             refusal: 0,
             finding: 1,
@@ -141,10 +175,10 @@ pub extern "C" fn zijraduf_bad_column(shape: Shape, stripe: &[u8]) -> Found
 
 // Plan.
 #[no_mangle]
-pub extern "C" fn zijraduf_plan(shape: Shape, k: usize) -> Planned
-    ensures { λ r. ⌜ InNumbers planInNumbers (Plans shape k) r ⌝ }
+pub extern "C" fn zijraduf_plan(shape: ShapeNumbers, k: usize) -> Planned
+    ensures { λ r. ⌜ InNumbers planInNumbers (Plans (shapeFrom shape) k) r ⌝ }
 {
-    match spare::plan(shape, k) {
+    match spare::plan(shape_from(shape), k) {
         PlanAnswer::Plan(plan) => Planned {
             refusal: 0,
             rows: plan.rows,
@@ -161,7 +195,7 @@ pub extern "C" fn zijraduf_plan(shape: Shape, k: usize) -> Planned
 // Run by plan.
 #[no_mangle]
 pub extern "C" fn zijraduf_run(
-    shape: Shape,
+    shape: ShapeNumbers,
     stripe: &[u8],
     k: usize,
     plan: u64,
@@ -169,16 +203,16 @@ pub extern "C" fn zijraduf_run(
     first: usize,
     budget: usize,
 ) -> Count
-    ensures { λ r. ⌜ InNumbers countInNumbers (RunsByPlan shape k plan first budget (now (stripe .entry)) (now (spare .entry))
+    ensures { λ r. ⌜ InNumbers countInNumbers (RunsByPlan (shapeFrom shape) k plan first budget (now (stripe .entry)) (now (spare .entry))
         (now (spare .exit))) r ⌝ }
 {
-    in_numbers(spare::run(shape, stripe, k, plan, spare, first, budget))
+    in_numbers(spare::run(shape_from(shape), stripe, k, plan, spare, first, budget))
 }
 
 // Show.
 #[no_mangle]
 pub extern "C" fn zijraduf_show(
-    shape: Shape,
+    shape: ShapeNumbers,
     stripe: &[u8],
     spare: &[u8],
     k: usize,
@@ -186,11 +220,11 @@ pub extern "C" fn zijraduf_show(
     row: usize,
     column: usize,
 ) -> Part
-    ensures { λ r. ⌜ InNumbers (shownInNumbers shape) (Shown shape (length (now (stripe .entry)))
+    ensures { λ r. ⌜ InNumbers (shownInNumbers (shapeFrom shape)) (Shown (shapeFrom shape) (length (now (stripe .entry)))
         (length (now (spare .entry))) k done row column) r ⌝ }
 {
     let length = shape.cell;
-    match show::shown_at(shape, stripe.len(), spare.len(), k, done, row, column) {
+    match show::shown_at(shape_from(shape), stripe.len(), spare.len(), k, done, row, column) {
         ShownAt::Stripe(offset) => Part {
             refusal: 0,
             buffer: 1,
