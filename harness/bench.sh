@@ -23,6 +23,7 @@ ROOT=$(cd "$(dirname "$0")/.." && pwd)
 # The calls are the rows of the table in calls.c. Of some only the stack is measured.
 primes='5 7 17 31'
 cells='512 1000 4096'
+short='1m4 17' # RDP with four data columns
 rebuild='two-columns one-column four-cells clean bad-column deciding'
 stack_only='plan show job'
 only=$(sed -n 's/^    {"\([a-z-]*\)", .*/\1/p' "$ROOT/harness/bench/calls.c" | grep -vxF "$(printf '%s\n' $stack_only)")
@@ -262,6 +263,9 @@ measure_all() {
         *deciding*) measure $code 31 1 deciding >>"$figures" ;;
         esac
     done
+    for cell in $cells; do
+        [ -z "$of_all" ] || measure $short "$cell" $of_all >>"$figures"
+    done
 }
 
 # What has to be read to push all else out of the caches: three times the last one, 64 MiB
@@ -292,6 +296,8 @@ header() {
     echo "- Instruction set: x86-64 with SSE2 for ours and for the same algorithm in C ($("$TOOLS/bin/clang" --version | head -n 1)," \
         "-O3 -march=x86-64); SSE4.1 for ISA-L SSE; $level is the most that ISA-L and memcpy could pick."
     echo "- Instructions of a call: $how."
+    echo "- RDP m=4: a shelf of six disks, four of them for data: p = 17 with m = 4 data columns given. The columns that don't exist are"
+    echo "  neither stored nor read, and are no data bytes; the peers have as many sources as there are data columns."
     echo "- ISA-L: pq_gen beside encode, pq_check beside broken, with as many sources as the code has data columns."
     echo "  Beside write ec_encode_data_update: the difference of old and new, ready made, into two parities of p - 1 sources."
     echo "  Beside lost columns ec_encode_data: one by P, two by P and Q, with the tables of the inverse ready made; nothing is checked."
@@ -301,12 +307,13 @@ header() {
     echo "- snapraid: raid_scan beside bad column, a byte at a time by tables, on as many data blocks as the code has data columns and two"
     echo "  parities, with a middle block bad."
     echo "- Write: a data cell in the middle, with three dependent parity cells for RDP and two for the others."
-    echo "- Two columns: 0 and 1; of the other pairs none takes 3 % more instructions. One column: 0. Four cells: in four columns and four rows."
+    echo "- Two columns: 0 and 1; of the other pairs none takes 3 %, with m = 4 none 4 % more instructions. One column: 0. Four cells: in four"
+    echo "  columns and four rows."
     echo "  Clean: no cell is lost, and the stripe is encoded. Bad column: the middle one, every byte of it bad."
     echo "- Run: all rows of the lost column 1 of RDP into a spare by the library's plan, made before; run-rows: by rows alone."
-    echo "  No other column takes 1 % more instructions."
-    echo "  Leaf: (p - 1)^2 times one cell XORed into another (the first of a row put), by the function with which the same algorithm in C does"
-    echo "  it. Sums: the same cells, all of a row XORed at once. Of both where the cells lie is ready made."
+    echo "  No other column takes 1 % more instructions, with m = 4 none 9 %. With m below p - 1 a plan may read more than rows alone do."
+    echo "  Leaf: (p - 1)^2 times, with m given (p - 1) m times, one cell XORed into another (the first of a row put), by the function with"
+    echo "  which the same algorithm in C does it. Sums: the same cells, all of a row XORed at once. Of both where the cells lie is ready made."
     if [ -e "$peers/done" ]; then
         echo "- Peers: $(cat "$peers/versions" "$snapraid/done" 2>/dev/null | paste -s -d , | sed 's/,/, /g')."
     fi

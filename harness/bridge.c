@@ -1,9 +1,10 @@
 /* The bridge: reads calls on standard input, makes them, writes the answers to
  * standard output. Every number is 64 bits, low byte first.
  *
- *   request  operation, shape (code, p, cell), row and column of a small write or a
- *            show, the two columns of a rebuild, k, plan, first row and budget of a
- *            run, rows done of a show, the loans, the `given` bytes of each
+ *   request  operation, shape (code, p, cell, whether m is given, m), row and column
+ *            of a small write or a show, the two columns of a rebuild, k, plan, first
+ *            row and budget of a run, rows done of a show, the loans, the `given`
+ *            bytes of each
  *   answer   guards of each loan (0 unchanged, 1 changed before, 2 after, 3 both),
  *            refusal, count, finding, column, rows and reads of a plan, buffer, offset
  *            and length of a part, the `given` bytes of each loan after the call

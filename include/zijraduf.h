@@ -20,13 +20,24 @@
  * cells are the XOR of others: those are parity, the rest are data. A stripe is
  * encoded when every equation of its code holds in every byte.
  *
+ * A shelf of RDP may have fewer disks. For it the shape gives a number m of data
+ * columns, 1 to p - 1. Data columns m to p - 2 then don't exist, and no byte of
+ * them is lent: the stripe has m + 2 columns, the data, the row parity and the
+ * diagonal parity, numbered 0 to m + 1 as they lie, and is (p - 1) x (m + 2) x
+ * cell bytes long. The equations read the columns that don't exist as zeros: such
+ * a stripe is encoded when it is with the zeros put back. Rows and equations are as
+ * many as before, and m = p - 1 is the same as no m. Every row, column and cell
+ * number that a call takes or gives is one of this stripe.
+ *
  * Nothing has to be checked before a call. Every number may be anything, 0 and
  * 2^64 - 1 included. A call that can't be carried out gives a refusal number,
- * the lowest that applies, and every byte that was lent is as it was (a job's
- * refusal is its answer, which goes into the output):
+ * the lowest that applies, where 14 comes after 2 and before 3, and every byte
+ * that was lent is as it was (a job's refusal is its answer, which goes into the
+ * output):
  *
  *     1   code is not 1, 2 or 3
  *     2   p is not in the list above
+ *     14  m is given and is not 1 to p - 1, or is given for another code than RDP
  *     3   plan, run or show for another code than RDP
  *     4   cell is not 1 to 4,096
  *     5   the stripe is not exactly rows x columns x cell bytes long, or the spare
@@ -55,11 +66,14 @@
 extern "C" {
 #endif
 
-/* What describes a stripe. It goes by value into every call on a stripe. */
+/* What describes a stripe. It goes by value into every call on a stripe. Where the
+ * last two are left 0, as in { .code = 1, .p = 5, .cell = 512 }, no m is given. */
 struct zijraduf_shape {
-    uint64_t code; /* 1 RDP, 2 H-Code, 3 X-Code */
-    uint64_t p;    /* the prime */
-    uint64_t cell; /* bytes in a cell */
+    uint64_t code;       /* 1 RDP, 2 H-Code, 3 X-Code */
+    uint64_t p;          /* the prime */
+    uint64_t cell;       /* bytes in a cell */
+    uint64_t data_given; /* 0 no m is given, anything else m is `data` */
+    uint64_t data;       /* the number m of data columns, not looked at where not given */
 };
 
 /* A refusal number, or 0 and a count. The count of a refused call is 0: look at
@@ -71,12 +85,12 @@ struct zijraduf_count {
 
 /* Encode: sets every parity cell so that the stripe is encoded. Data cells stay
  * as they are, and the bytes found in parity cells have no effect.
- * Returns 0, or refusal 1, 2, 4 or 5 with every byte as it was. */
+ * Returns 0, or refusal 1, 2, 14, 4 or 5 with every byte as it was. */
 uint64_t zijraduf_encode(struct zijraduf_shape shape, uint8_t *stripe, size_t length);
 
 /* Broken: how many equations of the stripe fail in at least one byte; 0 says
  * that the stripe is encoded. It only reads.
- * Gives the count, or refusal 1, 2, 4 or 5. */
+ * Gives the count, or refusal 1, 2, 14, 4 or 5. */
 struct zijraduf_count zijraduf_broken(struct zijraduf_shape shape, const uint8_t *stripe, size_t length);
 
 /* Small write: puts new bytes into one data cell, and changes the parity cells
@@ -88,7 +102,7 @@ struct zijraduf_count zijraduf_broken(struct zijraduf_shape shape, const uint8_t
  * you write to it.
  * Gives how many parity cells depend on this position, whatever the bytes: 2 for
  * H-Code and X-Code; for RDP 2 where row = 0 or row + column = p - 1, else 3.
- * Or refusal 1, 2, 4, 5, 6, 7 or 8, with every byte as it was. */
+ * Or refusal 1, 2, 14, 4, 5, 6, 7 or 8, with every byte as it was. */
 struct zijraduf_count zijraduf_write(struct zijraduf_shape shape, uint8_t *stripe, size_t length,
                                      uint64_t row, uint64_t column,
                                      const uint8_t *bytes, size_t bytes_length);
@@ -99,8 +113,8 @@ struct zijraduf_count zijraduf_write(struct zijraduf_shape shape, uint8_t *strip
  * and the bytes found in lost cells have no effect. An empty list asks whether
  * the stripe is encoded: 0 if so, else 12.
  * Returns 0, and the stripe is encoded: it is the one encoded stripe with these
- * survivors, so nothing in it is a guess if they are right. Or refusal 1, 2, 4, 5,
- * 6, 11 or 12, with every byte as it was.
+ * survivors, so nothing in it is a guess if they are right. Or refusal 1, 2, 14, 4,
+ * 5, 6, 11 or 12, with every byte as it was.
  *
  * 11 says that the survivors can't fix the lost cells: there are different
  * encoded stripes with the same survivors. Which cells are named decides that,
@@ -114,8 +128,8 @@ uint64_t zijraduf_rebuild_cells(struct zijraduf_shape shape, uint8_t *stripe, si
 
 /* Rebuild columns: rebuild cells, of all cells of columns a and b; where a equals
  * b it is one column. The others always fix them, so there is no refusal 11.
- * Returns 0, or refusal 1, 2, 4, 5, 6 or 12 with every byte as it was: 12 where
- * no encoded stripe has the bytes of the other columns. */
+ * Returns 0, or refusal 1, 2, 14, 4, 5, 6 or 12 with every byte as it was: 12
+ * where no encoded stripe has the bytes of the other columns. */
 uint64_t zijraduf_rebuild_columns(struct zijraduf_shape shape, uint8_t *stripe, size_t length,
                                   uint64_t a, uint64_t b);
 
@@ -139,16 +153,19 @@ struct zijraduf_finding {
  * column. Rebuild columns with it as a and b makes the replacement. It looks at
  * the whole stripe at once and only reads. What is named explains the bytes; that
  * cells of several other columns were altered and look the same can't be told.
- * Gives the finding, or refusal 1, 2, 4 or 5. */
+ * Gives the finding, or refusal 1, 2, 14, 4 or 5. */
 struct zijraduf_finding zijraduf_bad_column(struct zijraduf_shape shape, const uint8_t *stripe,
                                             size_t length);
 
-/* ---- RDP with one lost column: plan, run, show. The lost column is k, 0 to p;
- * the spare is one column, row i of it at i x cell. */
+/* ---- RDP with one lost column: plan, run, show. The lost column is k, 0 to p, with
+ * m given 0 to m + 1; the spare is one column, row i of it at i x cell. With m given,
+ * what is said of k in plan and run is said of its number with the zeros put back:
+ * p - 1 for the row parity column, p for the diagonal parity column. */
 
 /* A refusal number, or 0 and a plan: bit i of `rows` is 1 where row i is taken by
  * its diagonal, and 0 where by its row. `reads` is how many distinct cells the
- * equations of these rows need. Both are 0 where the call is refused. */
+ * equations of these rows need, of those that exist. Both are 0 where the call is
+ * refused. */
 struct zijraduf_read_plan {
     uint64_t refusal;
     uint64_t rows;
@@ -158,9 +175,11 @@ struct zijraduf_read_plan {
 /* Plan: what to read to rebuild column k. For k below p the lowest (p - 1) / 2 rows
  * other than row p - 1 - k are taken by their diagonals (for k = 0 no row is left
  * out), which reads 3 (p - 1)^2 / 4 cells, a quarter less than by rows alone; for
- * k = p all rows are, which reads (p - 1)^2. The bits that are 1 are as many as the
- * rows taken by diagonal.
- * Gives the plan, or refusal 1, 2, 3, 4 or 6. */
+ * k = p all rows are, which reads (p - 1)^2. With m below p - 1 there are fewer cells
+ * to read, for k = p (m + 1) (p - 1) - m, and the plan for another k may read more
+ * than rows alone, which read m (p - 1). The bits that are 1 are as many as the rows
+ * taken by diagonal.
+ * Gives the plan, or refusal 1, 2, 14, 3, 4 or 6. */
 struct zijraduf_read_plan zijraduf_plan(struct zijraduf_shape shape, uint64_t k);
 
 /* Run: rebuilds rows of column k into the spare by a plan, from the first row on
@@ -175,8 +194,8 @@ struct zijraduf_read_plan zijraduf_plan(struct zijraduf_shape shape, uint64_t k)
  * zijraduf_plan's: it is accepted exactly when it has no bit above p - 2, no
  * diagonal for row p - 1 - k if k is 1 to p - 1, and all p - 1 bits if k = p. First
  * row p - 1 is allowed and leaves nothing to do.
- * Gives how many rows it rebuilt, or refusal 1, 2, 3, 4, 5, 6 or 9 with every byte
- * as it was. */
+ * Gives how many rows it rebuilt, or refusal 1, 2, 14, 3, 4, 5, 6 or 9 with every
+ * byte as it was. */
 struct zijraduf_count zijraduf_run(struct zijraduf_shape shape, const uint8_t *stripe, size_t length,
                                    uint64_t k, uint64_t plan, uint8_t *spare, size_t spare_length,
                                    uint64_t first, uint64_t budget);
@@ -202,7 +221,7 @@ struct zijraduf_part {
  * another, in the spare if its row is done. C can't be handed a part of a buffer,
  * so this says which buffer, where the part starts and how long it is. No byte of
  * either is read.
- * Gives the part, or refusal 1, 2, 3, 4, 5, 6 or 10. */
+ * Gives the part, or refusal 1, 2, 14, 3, 4, 5, 6 or 10. */
 struct zijraduf_part zijraduf_show(struct zijraduf_shape shape, const uint8_t *stripe, size_t length,
                                    const uint8_t *spare, size_t spare_length, uint64_t k,
                                    uint64_t done, uint64_t row, uint64_t column);
@@ -214,7 +233,8 @@ enum {
     ZIJRADUF_ANSWER_LONGEST = 32775 /* bytes of the longest answer */
 };
 
-/* Job: reads a rebuild job from bytes, rebuilds, and writes the answer's bytes.
+/* Job: reads a rebuild job from bytes, rebuilds, and writes the answer's bytes. A job
+ * gives no m.
  *
  * A field is a tag of one byte, a length of two bytes, high byte first, and the
  * content. A job is these fields in this order, once each, and nothing after them:

@@ -8,7 +8,8 @@
  *     driver reads CODE P CELL CALL..        the distinct cells that run reads, and run-rows
  *     driver stack                           the most stack that a call uses
  *
- * CALL is a row of calls.c, WHO a program of programs.c. Check lists who has which call, with its data bytes. */
+ * CODE is a number, with m data columns given the number, an m and that number: 1m4. CALL is a row of calls.c, WHO a
+ * program of programs.c. Check lists who has which call, with its data bytes. */
 #include "check.h"
 #include "count.h"
 #include "hand.h"
@@ -60,7 +61,9 @@ static void reads_all(void)
 {
     const struct program *ours = &programs[OURS];
     const struct row *by_plan = find_row(ours->rows, "run"), *by_rows = find_row(ours->rows, "run-rows");
-    set_shape(hand.shape.code, hand.shape.p, 1);
+    struct zijraduf_shape shape = hand.shape;
+    shape.cell = 1;
+    set_shape(shape);
     if (!is_wanted(by_plan->call) || !by_plan->have())
         return;
     if (cells_read(by_plan) != zijraduf_plan(hand.shape, hand.lost_column).reads)
@@ -72,6 +75,13 @@ static void reads_all(void)
 /* ---- the command line ---- */
 
 static uint64_t number(const char *word) { return strtoul(word, 0, 10); }
+
+static struct zijraduf_shape shape_of(char **words)
+{
+    char *end;
+    uint64_t code = strtoul(words[0], &end, 10), given = *end == 'm';
+    return (struct zijraduf_shape){code, number(words[1]), number(words[2]), given, given ? number(end + 1) : 0};
+}
 
 /* Takes the calls from a word on. */
 static int want(int from, int count, char **words)
@@ -104,7 +114,7 @@ int main(int count, char **words)
         return stack_most();
     if (count < 6)
         return 2;
-    set_shape(number(words[2]), number(words[3]), number(words[4]));
+    set_shape(shape_of(words + 2));
     if (strcmp(mode, "calls") == 0 && count == 8)
         return make_calls(words[5], words[6], number(words[7]));
     int timed = strcmp(mode, "time") == 0;

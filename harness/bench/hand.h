@@ -6,7 +6,7 @@
 
 /* A small write goes to a data cell in the middle, on which as many parity cells depend as on any. Four lost cells are
  * spread over the stripe. The bad column is in the middle. A run rebuilds the lost column by the library's plan.
- * Sources are as many as the code has columns of data. The data cells of row 0 start at top_places. */
+ * Sources are as many as the stripe has columns of data. The data cells of row 0 start at top_places. */
 struct hand {
     struct zijraduf_shape shape;
     uint64_t rows, columns, length, column_bytes, data_bytes, sources;
@@ -15,7 +15,7 @@ struct hand {
     uint8_t new_bytes[4096];
 };
 extern struct hand hand;
-void set_shape(uint64_t code, uint64_t p, uint64_t cell);
+void set_shape(struct zijraduf_shape shape);
 
 /* A refusal, or 0 and a number where the call gives one. */
 struct answer {

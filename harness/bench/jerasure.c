@@ -26,9 +26,9 @@ static int **made(int **new_schedule)
 /* A diagonal's row parity cell stands for that row's data. */
 static void make_bits(void)
 {
-    uint64_t p = hand.shape.p, w = p - 1, line = w * w;
+    uint64_t p = hand.shape.p, w = p - 1, k = hand.sources, line = k * w;
     for (uint64_t q = 0; q < w; q++)
-        for (uint64_t j = 0; j < w; j++)
+        for (uint64_t j = 0; j < k; j++)
             for (uint64_t i = 0; i < w; i++) {
                 bits[q * line + j * w + i] = i == q;
                 bits[(w + q) * line + j * w + i] = (i + j) % p == q || i == q + 1;
@@ -47,7 +47,7 @@ static int have_jerasure(void)
     if (hand.shape.code != 1 || !open_functions("libJerasure.so.2", list))
         return 0;
     make_bits();
-    schedule = made(make_schedule(hand.rows, 2, hand.rows, bits));
+    schedule = made(make_schedule(hand.sources, 2, hand.rows, bits));
     return 1;
 }
 
@@ -55,7 +55,7 @@ static int have_jerasure(void)
  * gone, and the first rows of the inverse. */
 static int make_cached(uint64_t lost)
 {
-    uint64_t w = hand.rows, line = w * w;
+    uint64_t w = hand.rows, k = hand.sources, line = k * w;
     int ***entry = &decode_cache[lost - 1];
     if (*entry != 0)
         return 1;
@@ -67,7 +67,7 @@ static int make_cached(uint64_t lost)
         left[n * line + n] = 1;
     if (invert_bits(left, inverse, line) != 0)
         wrong("jerasure", "its matrix has no inverse");
-    *entry = made(make_schedule(w, lost, w, inverse));
+    *entry = made(make_schedule(k, lost, w, inverse));
     free(left);
     free(inverse);
     return 1;
@@ -82,8 +82,8 @@ static char **devices_at(uint8_t *m) { return (char **)vectors_at(m, hand.column
 static void encode_devices(uint8_t *m)
 {
     char **devices = devices_at(m);
-    int w = hand.rows;
-    schedule_encode(w, 2, w, schedule, devices, devices + w, hand.column_bytes, hand.shape.cell);
+    int w = hand.rows, k = hand.sources;
+    schedule_encode(k, 2, w, schedule, devices, devices + k, hand.column_bytes, hand.shape.cell);
     answer.refusal = 0;
 }
 
@@ -93,16 +93,16 @@ static int first_two[3] = {0, 1, -1}, first_one[2] = {0, -1};
 static void cached_call(int *erasures, uint8_t *m)
 {
     char **devices = devices_at(m);
-    int w = hand.rows;
-    answer.refusal = decode_cached(w, 2, w, decode_cache, erasures, devices, devices + w, hand.column_bytes,
+    int w = hand.rows, k = hand.sources;
+    answer.refusal = decode_cached(k, 2, w, decode_cache, erasures, devices, devices + k, hand.column_bytes,
                                    hand.shape.cell);
 }
 
 static void lazy_call(int *erasures, uint8_t *m)
 {
     char **devices = devices_at(m);
-    int w = hand.rows;
-    answer.refusal = decode_lazy(w, 2, w, bits, erasures, devices, devices + w, hand.column_bytes, hand.shape.cell, 1);
+    int w = hand.rows, k = hand.sources;
+    answer.refusal = decode_lazy(k, 2, w, bits, erasures, devices, devices + k, hand.column_bytes, hand.shape.cell, 1);
 }
 
 static void cached_two(uint8_t *m) { cached_call(first_two, m); }

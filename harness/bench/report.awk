@@ -1,5 +1,6 @@
 # Reads figures, lines 'KIND CODE P CELL CALL WHO VALUE', and prints tables of each
 # measure and a line for each bar. A new call has its table in tables() and its bars at the end.
+# CODE is a number, with m data columns given the number, an m and that number: 1m4.
 
 {
     row = $5 SUBSEP $2 SUBSEP $3 SUBSEP $4
@@ -23,6 +24,11 @@ function ratio(kind, row, who,    a, b) {
     return a == "" || b == "" || b == 0 ? "" : a / b
 }
 
+function code_name(code,    part) {
+    split(code, part, "m")
+    return codes[part[1]] (part[2] == "" ? "" : " m=" part[2])
+}
+
 function entry(x, digits, wide) {
     return x == "" ? sprintf(" %" wide "s |", "-") : sprintf(" %" wide "." digits "f |", x)
 }
@@ -42,7 +48,7 @@ function table(kind, title, list,    calls, n, c, r, w, wide, part, line, rule) 
     wide = columns_of(list)
     if (!(kind in kinds) || wide == 0) return
     printf "\n### %s\n\n", title
-    line = "| call        | code   |  p | cell |"; rule = "|-------------|--------|---:|-----:|"
+    line = "| call        | code    |  p | cell |"; rule = "|-------------|---------|---:|-----:|"
     for (w = 1; w <= wide; w++) { line = line sprintf(" %9s |", heads[columns[w]]); rule = rule "----------:|" }
     for (w = 2; w <= wide; w++) { line = line sprintf(" %11s |", "/ " heads[columns[w]]); rule = rule "------------:|" }
     print line; print rule
@@ -50,7 +56,7 @@ function table(kind, title, list,    calls, n, c, r, w, wide, part, line, rule) 
     for (c = 1; c <= n; c++) for (r = 1; r <= count; r++) {
         split(rows[r], part, SUBSEP)
         if (part[1] != calls[c]) continue
-        line = sprintf("| %-11s | %-6s | %2d | %4d |", part[1], codes[part[2]], part[3], part[4])
+        line = sprintf("| %-11s | %-7s | %2d | %4d |", part[1], code_name(part[2]), part[3], part[4])
         for (w = 1; w <= wide; w++)
             line = line entry(figure(kind, rows[r], whos[columns[w]]), kind == "instructions" ? 3 : 2, 9)
         for (w = 2; w <= wide; w++)
@@ -69,16 +75,16 @@ function tables(kind, title) {
 
 # The cells that a run reads are as many whatever the size of a cell.
 function reads(    r, part, plan, alone, last) {
-    for (r = 1; r <= count; r++) if (is_of(rows[r], "run", 0)) {
+    for (r = 1; r <= count; r++) if (rows[r] ~ "^run" SUBSEP) {
         split(rows[r], part, SUBSEP)
-        if (part[3] == last) continue
+        if (part[2] SUBSEP part[3] == last) continue
         if (!last) {
             printf "\n## Run by plan: distinct cells read, and by plan as a multiple (less is better)\n\n"
-            print "|  p | by plan | by rows alone | / rows |"; print "|---:|--------:|--------------:|-------:|"
+            print "| code    |  p | by plan | by rows alone | / rows |"; print "|---------|---:|--------:|--------------:|-------:|"
         }
-        last = part[3]
+        last = part[2] SUBSEP part[3]
         plan = value["reads", rows[r], "ours"]; alone = value["reads", same_row(rows[r], "run-rows", "", ""), "ours"]
-        printf "| %2d | %7d | %13d |%s\n", last, plan, alone, entry(plan / alone, 2, 6)
+        printf "| %-7s | %2d | %7d | %13d |%s\n", code_name(part[2]), part[3], plan, alone, entry(plan / alone, 2, 6)
     }
 }
 
@@ -103,7 +109,7 @@ function take(x, row,    part) {
     if (taken == 1 || x > worst) {
         worst = x
         split(row, part, SUBSEP)
-        where = codes[part[2]] ", p = " part[3] ", cell " part[4]
+        where = code_name(part[2]) ", p = " part[3] ", cell " part[4]
     }
 }
 
@@ -122,10 +128,11 @@ function same_row(row, call, code, p,    part) {
 
 function by(a, b) { return a == "" || b == "" ? "" : a / b }
 
-# Whether a row is of a call, and of the shapes that bars are held in where `large` is set.
+# Whether a row is of a call, with all data columns, and of the shapes that bars are held in where `large` is set.
 function is_of(row, call, large,    part) {
     split(row, part, SUBSEP)
-    return part[1] == call && (!large || ((part[3] == 17 || part[3] == 31) && (part[4] == 512 || part[4] == 4096)))
+    return part[1] == call && part[2] !~ /m/ && \
+        (!large || ((part[3] == 17 || part[3] == 31) && (part[4] == 512 || part[4] == 4096)))
 }
 
 # A call of ours to another call of ours, and to the same in C.
@@ -143,6 +150,17 @@ function bar_to(call, who, name, most, large,    r) {
 }
 
 function bar_to_c(call, most, large) { bar_to(call, "c", "the same algorithm in C", most, large) }
+
+# A call of a shelf with fewer disks to the same call of RDP at p = 5 with all of them.
+function bar_to_small(call, most,    r, part) {
+    limit = most
+    for (r = 1; r <= count; r++) {
+        split(rows[r], part, SUBSEP)
+        if (part[1] == call && part[2] ~ /m/ && (part[4] == 512 || part[4] == 4096))
+            take(by(figure(kind, rows[r], "ours"), figure(kind, same_row(rows[r], "", 1, 5), "ours")), rows[r])
+    }
+    judge(call " / of RDP at p = 5")
+}
 
 function bar_of_row(row, name, most) {
     limit = most
@@ -196,6 +214,12 @@ END {
     limit = 400000
     for (r = 1; r <= count; r++) if (is_of(rows[r], "deciding", 0)) take(value[kind, rows[r], "ours"], rows[r])
     judge("deciding, instructions")
+
+    printf "\nOf RDP with m = 4 data columns and p = 17, cells of 512 and 4,096 bytes:\n\n"
+    bar_to_small("encode", 1.15)
+    bar_to_small("broken", 1.25)
+    bar_to_small("write", 1.25)
+    bar_to_small("two-columns", 2.1)
 
     printf "\n"
     for (k = 1; k <= stack_count; k++) bar_of_stack(stacks[k])

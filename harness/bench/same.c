@@ -13,10 +13,10 @@
 /* The row parity column into the spare, a cell after the other, with the places of row 0 for every row. */
 void same_cells(struct zijraduf_shape shape, const uint8_t *stripe, const uint64_t *places, uint8_t *spare)
 {
-    uint64_t n = shape.p - 1;
+    uint64_t n = shape.p - 1, m = data_count(shape);
     for (uint64_t i = 0; i < n; i++) {
         put_sum_from(spare, i * shape.cell, stripe, places, 1, i * shape.cell, shape.cell);
-        for (uint64_t k = 1; k < n; k++)
+        for (uint64_t k = 1; k < m; k++)
             add_sum(spare, i * shape.cell, stripe, &places[k], 1, i * shape.cell, shape.cell);
     }
 }
@@ -24,7 +24,7 @@ void same_cells(struct zijraduf_shape shape, const uint8_t *stripe, const uint64
 /* The same, all cells of a row at once. */
 void same_sums(struct zijraduf_shape shape, const uint8_t *stripe, const uint64_t *places, uint8_t *spare)
 {
-    uint64_t n = shape.p - 1;
+    uint64_t n = shape.p - 1, m = data_count(shape);
     for (uint64_t i = 0; i < n; i++)
-        put_sum_from(spare, i * shape.cell, stripe, places, n, i * shape.cell, shape.cell);
+        put_sum_from(spare, i * shape.cell, stripe, places, m, i * shape.cell, shape.cell);
 }

@@ -40,14 +40,15 @@ static size_t stack_of(const struct row *row, uint8_t *stack)
     return used;
 }
 
-/* Over all shapes that have the call. */
+/* Over all shapes that have the call; RDP with half of its data columns too. */
 static size_t most_of(const struct row *row, uint8_t *stack)
 {
-    static const uint64_t primes[] = {3, 5, 7, 17, 31}, cells[] = {1, 100, 512, 1000, 4096};
+    static const uint64_t codes[] = {1, 1, 2, 3}, primes[] = {3, 5, 7, 17, 31}, cells[] = {1, 100, 512, 1000, 4096};
     size_t most = 0;
-    for (uint64_t code = 1; code <= 3; code++)
+    for (int c = 0; c < 4; c++)
         for (int k = 0; k < 25; k++) {
-            set_shape(code, primes[k / 5], cells[k % 5]);
+            uint64_t p = primes[k / 5];
+            set_shape((struct zijraduf_shape){codes[c], p, cells[k % 5], c == 0, p / 2});
             size_t used = row->have() ? stack_of(row, stack) : 0;
             if (used > most)
                 most = used;

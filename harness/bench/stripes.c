@@ -12,7 +12,7 @@ static size_t job_bytes(void) { return ZIJRADUF_JOB_LONGEST + ZIJRADUF_ANSWER_LO
 
 int always(void) { return 1; }
 int has_spare(void) { return hand.shape.code == 1; }
-int has_job(void) { return hand.length + 7 <= ZIJRADUF_ANSWER_LONGEST; }
+int has_job(void) { return !hand.shape.data_given && hand.length + 7 <= ZIJRADUF_ANSWER_LONGEST; }
 
 static void put_any(uint8_t *m) { fill(m, hand.length); }
 

@@ -12,7 +12,8 @@ extern struct state any, encoded, two_lost, one_lost, four_lost, damaged, spared
 extern struct state job_lost;
 size_t job_length(void);
 
-/* Whether the shape has such a state: only RDP has a spare, and the longest answer holds only short stripes. */
+/* Whether the shape has such a state: only RDP has a spare, a job gives no m, and the longest answer holds only short
+ * stripes. */
 int always(void);
 int has_spare(void);
 int has_job(void);

@@ -13,7 +13,7 @@ pub static CALLS: &[Row] = &[
     Row {
         operation: encode::ENCODE,
         name: "encode",
-        refusals: &[1, 2, 4, 5],
+        refusals: &[1, 2, 14, 4, 5],
         answer: encode::encode,
         writes: the_stripe,
         list: |cases| cases.encodes(),
@@ -25,14 +25,14 @@ pub static CALLS: &[Row] = &[
     Row {
         operation: encode::BROKEN,
         name: "broken",
-        refusals: &[1, 2, 4, 5],
+        refusals: &[1, 2, 14, 4, 5],
         answer: encode::broken,
         ..ON_STRIPE
     },
     Row {
         operation: write::WRITE,
         name: "write",
-        refusals: &[1, 2, 4, 5, 6, 7, 8],
+        refusals: &[1, 2, 14, 4, 5, 6, 7, 8],
         granted: write::granted,
         answer: write::write,
         lends: &[STRIPE, BYTES],
@@ -45,7 +45,7 @@ pub static CALLS: &[Row] = &[
     Row {
         operation: rebuild::REBUILD_CELLS,
         name: "rebuild cells",
-        refusals: &[1, 2, 4, 5, 6, 11, 12],
+        refusals: &[1, 2, 14, 4, 5, 6, 11, 12],
         granted: rebuild::cells_granted,
         answer: rebuild::cells,
         lends: &[STRIPE, LOST],
@@ -61,7 +61,7 @@ pub static CALLS: &[Row] = &[
     Row {
         operation: rebuild::REBUILD_COLUMNS,
         name: "rebuild columns",
-        refusals: &[1, 2, 4, 5, 6, 12],
+        refusals: &[1, 2, 14, 4, 5, 6, 12],
         granted: rebuild::columns_granted,
         answer: rebuild::columns,
         writes: the_stripe,
@@ -73,7 +73,7 @@ pub static CALLS: &[Row] = &[
         operation: rebuild::BAD_COLUMN,
         name: "bad column",
         findings: &[CLEAN, COLUMN, UNEXPLAINED],
-        refusals: &[1, 2, 4, 5],
+        refusals: &[1, 2, 14, 4, 5],
         answer: rebuild::bad_column,
         known: findings::known,
         list: |cases| cases.findings(),
@@ -85,7 +85,7 @@ pub static CALLS: &[Row] = &[
     Row {
         operation: spare::PLAN,
         name: "plan",
-        refusals: &[1, 2, 3, 4, 6],
+        refusals: &[1, 2, 14, 3, 4, 6],
         granted: spare::plan_granted,
         answer: spare::plan,
         lends: &[],
@@ -96,7 +96,7 @@ pub static CALLS: &[Row] = &[
     Row {
         operation: spare::RUN,
         name: "run",
-        refusals: &[1, 2, 3, 4, 5, 6, 9],
+        refusals: &[1, 2, 14, 3, 4, 5, 6, 9],
         granted: spare::run_granted,
         answer: spare::run,
         writes: |answer, _| (answer.count > 0).then_some(SPARE),
@@ -109,7 +109,7 @@ pub static CALLS: &[Row] = &[
     Row {
         operation: spare::SHOW,
         name: "show",
-        refusals: &[1, 2, 3, 4, 5, 6, 10],
+        refusals: &[1, 2, 14, 3, 4, 5, 6, 10],
         granted: spare::show_granted,
         answer: spare::show,
         seals: &[STRIPE, SPARE],

@@ -6,8 +6,8 @@ pub const USAGE: &str =
     "usage: compare [--jobs N] [--seed N] [--only N] [--short | --long] [--faults] -- COMMAND [ARGUMENTS...]";
 
 /// How many random calls come after the listed ones.
-const SHORT: usize = 10_000;
-const USUAL: usize = 90_000;
+const SHORT: usize = 13_000;
+const USUAL: usize = 120_000;
 const LONG: usize = 20 * USUAL;
 
 pub struct Options {

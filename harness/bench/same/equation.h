@@ -18,6 +18,7 @@ static uint64_t turned(uint64_t column, uint64_t step, uint64_t p)
     return p <= next ? next - p : next;
 }
 
+/* With all data columns. */
 static struct line rdp_line(uint64_t p, uint64_t q)
 {
     uint64_t n = p - 1;
@@ -67,15 +68,57 @@ struct sources {
     uint64_t count;
 };
 
-static struct sources sources_of(struct zijraduf_shape shape, uint64_t q, uint64_t places[PLACES])
+/* Of RDP with m data columns given. The parity cells lie behind the data in the order of their equations. */
+static size_t short_parity(struct zijraduf_shape shape, uint64_t q)
 {
+    return (shape.data * (shape.p - 1) + q) * shape.cell;
+}
+
+/* So many cells, each `step` bytes on. */
+static void place_steps(uint64_t *places, uint64_t count, uint64_t at, uint64_t step)
+{
+    for (uint64_t k = 0; k < count; k++) {
+        places[k] = at;
+        at += step;
+    }
+}
+
+/* A diagonal goes up from row d of column 0 to row 0 of column d. It has no cell of column d + 1, and goes on from the
+ * last row of the column after that. All but the last diagonal have a cell of the row parity column. */
+static uint64_t place_diagonal(struct zijraduf_shape shape, uint64_t d, uint64_t places[PLACES])
+{
+    uint64_t p = shape.p, m = shape.data, cell = shape.cell, step = (p - 2) * cell;
+    uint64_t above = d < m ? d + 1 : m, below = d + 2 < m ? m - d - 2 : 0, count = above + below;
+    place_steps(places, above, d * cell, step);
+    place_steps(places + above, below, (p + d) * cell + (d + 2) * step, step);
+    if (d + 2 < p)
+        places[count++] = (m * (p - 1) + d + 1) * cell;
+    return count;
+}
+
+[[clang::noinline]] static struct sources short_sources(struct zijraduf_shape shape, uint64_t q,
+                                                        uint64_t places[PLACES])
+{
+    uint64_t n = shape.p - 1, m = shape.data;
+    if (n <= q)
+        return (struct sources){short_parity(shape, q), place_diagonal(shape, q - n, places)};
+    place_steps(places, m, q * shape.cell, n * shape.cell);
+    return (struct sources){short_parity(shape, q), m};
+}
+
+/* This and the next are inlined, what is above is called: with all data columns that takes the fewest instructions. */
+[[clang::always_inline]] static struct sources sources_of(struct zijraduf_shape shape, uint64_t q,
+                                                          uint64_t places[PLACES])
+{
+    if (shape.data_given != 0)
+        return short_sources(shape, q, places);
     struct line l = line_of(shape, q);
     place_cells(shape, l, places);
     return (struct sources){l.parity * shape.cell, l.count};
 }
 
 /* All cells of an equation, its parity cell last. Gives how many. */
-static uint64_t cells_of(struct zijraduf_shape shape, uint64_t q, uint64_t places[PLACES])
+[[clang::always_inline]] static uint64_t cells_of(struct zijraduf_shape shape, uint64_t q, uint64_t places[PLACES])
 {
     struct sources from = sources_of(shape, q, places);
     places[from.count] = from.to;
@@ -84,7 +127,7 @@ static uint64_t cells_of(struct zijraduf_shape shape, uint64_t q, uint64_t place
 
 static size_t parity_place(struct zijraduf_shape shape, uint64_t q)
 {
-    return line_of(shape, q).parity * shape.cell;
+    return shape.data_given != 0 ? short_parity(shape, q) : line_of(shape, q).parity * shape.cell;
 }
 
 static size_t cell_place(struct zijraduf_shape shape, uint64_t row, uint64_t column)
@@ -119,7 +162,9 @@ static struct holders parity_holders(struct zijraduf_shape shape, uint64_t row, 
         return row == n ? (struct holders){p + column, 2 * p} : (struct holders){column, 2 * p};
     if (shape.code == 2)
         return column == p ? (struct holders){row, 2 * n} : (struct holders){n + row, 2 * n};
-    return column == p ? (struct holders){n + row, 2 * n} : (struct holders){row, n + turned(row, n, p)};
+    if (column == data_count(shape))
+        return (struct holders){row, n + turned(row, n, p)};
+    return (struct holders){n + row, 2 * n};
 }
 
 static struct holders holders_of(struct zijraduf_shape shape, uint64_t row, uint64_t column)

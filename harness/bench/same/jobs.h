@@ -58,7 +58,7 @@ static uint64_t rebuild_job(const struct job *job, uint8_t stripe[JOB_BYTES])
     for (size_t k = 0; k < count; k++)
         lost[k] = number_at(job->lost.at + 2 * k);
     put_run(stripe, 0, job->stripe.at, job->stripe.count);
-    struct zijraduf_shape shape = {job->code.at[0], job->p.at[0], number_at(job->cell.at)};
+    struct zijraduf_shape shape = {.code = job->code.at[0], .p = job->p.at[0], .cell = number_at(job->cell.at)};
     return SAME(rebuild_cells)(shape, stripe, job->stripe.count, lost, count);
 }
 

@@ -9,8 +9,16 @@ static uint64_t row_count(struct zijraduf_shape shape)
     return shape.code == 3 ? shape.p : shape.p - 1;
 }
 
+/* Of RDP: how many data columns there are. */
+static uint64_t data_count(struct zijraduf_shape shape)
+{
+    return shape.data_given != 0 ? shape.data : shape.p - 1;
+}
+
 static uint64_t column_count(struct zijraduf_shape shape)
 {
+    if (shape.data_given != 0)
+        return shape.data + 2;
     return shape.code == 3 ? shape.p : shape.p + 1;
 }
 
@@ -34,12 +42,22 @@ static int is_listed(uint64_t p)
     }
 }
 
-static uint64_t shape_refusal(struct zijraduf_shape shape)
+static uint64_t code_refusal(struct zijraduf_shape shape)
 {
     if (shape.code == 0 || 3 < shape.code)
         return 1;
     if (!is_listed(shape.p))
         return 2;
+    if (shape.data_given == 0)
+        return 0;
+    return shape.code != 1 || shape.data == 0 || shape.p <= shape.data ? 14 : 0;
+}
+
+static uint64_t shape_refusal(struct zijraduf_shape shape)
+{
+    uint64_t refusal = code_refusal(shape);
+    if (refusal != 0)
+        return refusal;
     return shape.cell == 0 || 4096 < shape.cell ? 4 : 0;
 }
 
@@ -54,7 +72,7 @@ static uint64_t stripe_refusal(struct zijraduf_shape shape, size_t bytes)
 static int is_parity(struct zijraduf_shape shape, uint64_t row, uint64_t column)
 {
     if (shape.code == 1)
-        return shape.p - 1 <= column;
+        return data_count(shape) <= column;
     if (shape.code == 3)
         return shape.p - 2 <= row;
     return column == shape.p || column == row + 1;

@@ -21,6 +21,7 @@ impl All<'_> {
         let mut cases = Cases { calls, second, random: Random::new(seed, 0), list: Vec::new() };
         cases.written();
         calls.iter().for_each(|row| (row.list)(&mut cases));
+        cases.shelves();
         let shares = calls.iter().flat_map(|row| vec![row; row.share]).collect();
         All { calls, second, seed, listed: cases.list, shares }
     }

@@ -7,8 +7,8 @@ use crate::cases::lists::Lost;
 use crate::cases::loans::{Loan, Place, BUFFERS, BYTES, SPARE, STRIPE};
 use crate::random::Random;
 use crate::second::call::{Answer, Call, Lent, Operation, Shape};
-use crate::second::layout::Layout;
 use crate::second::shapes::{Second, PRIMES};
+use crate::second::shelf::Shelf;
 
 /// All that is said of one call: what it is, how the second program answers it, how it
 /// uses what it is lent, and its cases.
@@ -19,9 +19,9 @@ pub struct Row {
     /// looks for nothing, and the refusals.
     pub findings: &'static [u64],
     pub refusals: &'static [u64],
-    /// The layout of a call that isn't refused before bytes are looked at, or the refusal,
+    /// The shelf of a call that isn't refused before bytes are looked at, or the refusal,
     /// by the numbers and the list of lost cells; of a job, for the rebuild that it asks.
-    pub granted: for<'a> fn(&'a Second, &Call, &[u64]) -> Result<&'a Layout, u64>,
+    pub granted: for<'a> fn(&'a Second, &Call, &[u64]) -> Result<&'a Shelf, u64>,
     /// The second program's answer, with what it makes of what is lent.
     pub answer: fn(&Second, &Call, &mut Lent) -> Result<Answer, String>,
     /// The buffers that are lent, and those that always are sealed.
@@ -33,7 +33,7 @@ pub struct Row {
     pub writes: fn(&Answer, &Lent) -> Option<usize>,
     /// The answer of a call that isn't refused, where it is known without computing: from
     /// what the scope document says of all stripes, or from how this one was made.
-    pub known: fn(&Case, &Layout) -> Option<Answer>,
+    pub known: fn(&Case, &Shelf) -> Option<Answer>,
     /// What a call that is carried out gives back of an encoded stripe.
     pub back: for<'a> fn(&Case, &'a Filled, &Answer, &'a Lent) -> Back<'a>,
     /// Lists cases, makes a random one, and how often, beside the other calls.
@@ -93,7 +93,17 @@ pub struct Cases<'a> {
     pub list: Vec<Case>,
 }
 
-impl Cases<'_> {
+impl<'a> Cases<'a> {
+    /// The shelf of a good shape.
+    pub fn shelf(&self, shape: Shape) -> &'a Shelf {
+        self.second.shelf(shape).expect("a good shape")
+    }
+
+    /// The shelf with all columns.
+    pub fn full(&self, code: u64, p: u64) -> &'a Shelf {
+        self.shelf(Shape::new(code, p, 1))
+    }
+
     /// Lends in any place, at times NULL where there is nothing to lend, and seals at
     /// times, or always what the row says. The list of lost cells lies nowhere yet.
     pub fn case(&mut self, call: Call, fill: Fill) -> Case {
@@ -146,10 +156,6 @@ impl Cases<'_> {
         }
     }
 
-    pub fn layout(&self, code: u64, p: u64) -> &Layout {
-        self.second.layout(code, p).expect("a good shape")
-    }
-
     /// Whether a call without a list of lost cells is refused before bytes are looked at.
     pub fn is_refused(&self, call: &Call) -> bool {
         let row = &self.calls[call.operation.0 as usize - 1];
@@ -168,7 +174,7 @@ impl Cases<'_> {
         }
         let code = if (1..=3).contains(&shape.code) { shape.code } else { 1 };
         let p = if PRIMES.contains(&shape.p) { shape.p } else { 5 };
-        Shape { code, p, cell: 1 }
+        Shape::new(code, p, 1)
     }
 
     /// A cell size for loops over many cells or columns: large ones for small p only.
@@ -180,15 +186,20 @@ impl Cases<'_> {
         }
     }
 
+    /// Of each code without m, and as often of RDP with m. An m that isn't given may be any.
     pub fn random_shape(&mut self) -> Shape {
         let random = &mut self.random;
-        let (code, p) = (1 + random.below(3) as u64, random.one_of(&PRIMES));
+        let (code, p) = (random.below(4) as u64, random.one_of(&PRIMES));
         let most = if p <= 7 || random.below(100) == 0 { 4096 } else { 300 };
         let cell = match random.below(3) {
             0 => random.one_of(&[1, 2, 3, 7, 31, 64, 127, 128, 129, 255]),
             1 => 1 + random.below(20) as u64,
             _ => 1 + random.below(most) as u64,
         };
-        Shape { code, p, cell }
+        if code > 0 {
+            return Shape { data: random.one_of(&[0, 0, 1, p, u64::MAX]), ..Shape::new(code, p, cell) };
+        }
+        let data_given = random.one_of(&[1, 1, 2, 1 << 32, u64::MAX]);
+        Shape { data_given, ..Shape::short(p, cell, 1 + random.below(p as usize - 1) as u64) }
     }
 }

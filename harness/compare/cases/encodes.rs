@@ -45,7 +45,7 @@ impl Cases<'_> {
         for code in CODES {
             for p in SOME_P {
                 for cell in SOME_CELLS {
-                    self.lengths(Shape { code, p, cell });
+                    self.lengths(Shape::new(code, p, cell));
                 }
             }
         }
@@ -80,9 +80,9 @@ impl Cases<'_> {
     /// shows which equations that cell lies in.
     fn lone_bytes(&mut self) {
         for (code, p) in codes() {
-            let cells = self.layout(code, p).cells();
+            let cells = self.full(code, p).cells();
             for n in 0..cells {
-                let shape = Shape { code, p, cell: 1 + self.random.below(3) as u64 };
+                let shape = Shape::new(code, p, 1 + self.random.below(3) as u64);
                 for operation in [ENCODE, BROKEN] {
                     self.push(operation, shape, cells as u64 * shape.cell, Fill::LoneByteInCell(n));
                 }
@@ -95,15 +95,15 @@ impl Cases<'_> {
     fn listed_shapes(&mut self) {
         for (code, p) in codes() {
             for cell in SMALL_CELLS {
-                self.fills(Shape { code, p, cell }, true);
+                self.fills(Shape::new(code, p, cell), true);
             }
             for cell in LARGE_CELLS.into_iter().filter(|_| p <= 7 || p == 31) {
-                self.fills(Shape { code, p, cell }, p <= 7);
+                self.fills(Shape::new(code, p, cell), p <= 7);
             }
         }
     }
 
-    fn fills(&mut self, shape: Shape, all_places: bool) {
+    pub fn fills(&mut self, shape: Shape, all_places: bool) {
         let length = self.second.length(shape).expect("a good shape");
         let encode = ENCODE_FILLS.map(|fill| (ENCODE, fill));
         let broken = BROKEN_FILLS.map(|fill| (BROKEN, fill));

@@ -1,7 +1,7 @@
 //! What the stripe holds before a call.
 
 use crate::random::Random;
-use crate::second::layout::Layout;
+use crate::second::shelf::Shelf;
 
 /// A wholly random stripe has junk in its parity cells too.
 #[derive(Clone, Copy, PartialEq, Debug)]
@@ -45,15 +45,15 @@ pub const EXTENTS: [Extent; 4] = [Extent::Bit, Extent::LateBit, Extent::Cells, E
 
 impl Fill {
     /// Damages an encoded stripe.
-    pub fn damage(self, layout: &Layout, cell: usize, stripe: &mut [u8], random: &mut Random) {
-        let column = layout.rows * cell;
-        let any = random.below(layout.cells());
+    pub fn damage(self, shelf: &Shelf, cell: usize, stripe: &mut [u8], random: &mut Random) {
+        let column = shelf.rows * cell;
+        let any = random.below(shelf.cells());
         match self {
             Fill::BitDamaged => flip(&mut stripe[any * cell..][..cell], false, random),
             Fill::LateDamaged => flip(&mut stripe[any * cell..][..cell], true, random),
             Fill::CellDamaged => random.fill(&mut stripe[any * cell..][..cell]),
             Fill::ColumnDamaged => {
-                let start = random.below(layout.columns) * column;
+                let start = random.below(shelf.columns) * column;
                 random.fill(&mut stripe[start..start + column]);
             }
             // The same change at the same byte of some cells: in an equation with
@@ -61,7 +61,7 @@ impl Fill {
             Fill::SeveralDamaged => {
                 let (byte, change) = (random.below(cell), random.nonzero_byte());
                 for _ in 0..2 + random.below(7) {
-                    stripe[random.below(layout.cells()) * cell + byte] ^= change;
+                    stripe[random.below(shelf.cells()) * cell + byte] ^= change;
                 }
             }
             Fill::CellAltered(n) => alter(&mut stripe[n * cell..][..cell], random),

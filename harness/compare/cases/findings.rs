@@ -4,14 +4,14 @@ use crate::cases::case::{Case, Cases};
 use crate::cases::fills::{Extent, Fill, EXTENTS, FILLS};
 use crate::cases::shapes::{codes, LARGE_CELLS, SMALL_CELLS};
 use crate::second::call::{Answer, Shape, CLEAN, COLUMN};
-use crate::second::layout::Layout;
 use crate::second::rebuild::BAD_COLUMN;
+use crate::second::shelf::Shelf;
 
 /// What was made so that one column explains it.
-pub fn known(case: &Case, layout: &Layout) -> Option<Answer> {
+pub fn known(case: &Case, shelf: &Shelf) -> Option<Answer> {
     match case.fill {
         Fill::Encoded => Some(Answer::found(CLEAN, 0)),
-        Fill::CellAltered(n) => Some(Answer::found(COLUMN, (n / layout.rows) as u64)),
+        Fill::CellAltered(n) => Some(Answer::found(COLUMN, (n / shelf.rows) as u64)),
         Fill::ColumnAltered(c, _) => Some(Answer::found(COLUMN, c as u64)),
         _ => None,
     }
@@ -25,7 +25,7 @@ impl Cases<'_> {
         self.finding_shapes();
     }
 
-    fn find(&mut self, shape: Shape, fill: Fill) {
+    pub fn find(&mut self, shape: Shape, fill: Fill) {
         let case = self.case(self.good_call(BAD_COLUMN, shape), fill);
         self.list.push(case);
     }
@@ -33,8 +33,8 @@ impl Cases<'_> {
     /// Each cell of each code and prime is the only bad one: its column is named.
     fn every_bad_cell(&mut self) {
         for (code, p) in codes() {
-            for n in 0..self.layout(code, p).cells() {
-                let shape = Shape { code, p, cell: self.some_cell(p) };
+            for n in 0..self.full(code, p).cells() {
+                let shape = Shape::new(code, p, self.some_cell(p));
                 self.find(shape, Fill::CellAltered(n));
             }
         }
@@ -43,9 +43,9 @@ impl Cases<'_> {
     /// Each column is the bad one: in a bit, in some cells, in whole.
     fn every_bad_column(&mut self) {
         for (code, p) in codes() {
-            for column in 0..self.layout(code, p).columns {
+            for column in 0..self.full(code, p).columns {
                 for extent in EXTENTS {
-                    let shape = Shape { code, p, cell: self.some_cell(p) };
+                    let shape = Shape::new(code, p, self.some_cell(p));
                     self.find(shape, Fill::ColumnAltered(column, extent));
                 }
             }
@@ -57,10 +57,10 @@ impl Cases<'_> {
     /// byte by itself is explained.
     fn every_two_bad_columns(&mut self) {
         for (code, p) in codes() {
-            let columns = self.layout(code, p).columns;
+            let columns = self.full(code, p).columns;
             for (a, b) in (0..columns).flat_map(|b| (0..b).map(move |a| (a, b))) {
                 let extent = self.random.one_of(&[Extent::Bit, Extent::Bit, Extent::Cells, Extent::Whole]);
-                let shape = Shape { code, p, cell: self.some_cell(p) };
+                let shape = Shape::new(code, p, self.some_cell(p));
                 self.find(shape, Fill::TwoAltered(a, b, extent));
             }
         }
@@ -70,17 +70,17 @@ impl Cases<'_> {
     fn finding_shapes(&mut self) {
         for (code, p) in codes() {
             for cell in SMALL_CELLS {
-                self.finding_fills(Shape { code, p, cell });
+                self.finding_fills(Shape::new(code, p, cell));
             }
             for cell in LARGE_CELLS.into_iter().filter(|_| p <= 7 || p == 31) {
-                self.finding_fills(Shape { code, p, cell });
+                self.finding_fills(Shape::new(code, p, cell));
             }
         }
     }
 
     fn finding_fills(&mut self, shape: Shape) {
         FILLS.into_iter().for_each(|fill| self.find(shape, fill));
-        let columns = self.layout(shape.code, shape.p).columns;
+        let columns = self.shelf(shape).columns;
         for extent in EXTENTS {
             let [a, b] = [self.random.below(columns), self.random.below(columns)];
             self.find(shape, Fill::ColumnAltered(a, extent));
@@ -92,7 +92,7 @@ impl Cases<'_> {
 
     pub fn random_finding(&mut self) {
         let shape = self.random_shape();
-        let columns = self.layout(shape.code, shape.p).columns;
+        let columns = self.shelf(shape).columns;
         let [a, b] = [self.random.below(columns), self.random.below(columns)];
         let extent = self.random.one_of(&EXTENTS);
         let fill = match self.random.below(4) {

@@ -8,7 +8,7 @@ use crate::cases::loans::{Place, BYTES, SPARE};
 use crate::cases::shapes::codes;
 use crate::second::call::{Answer, Call, Lent, Shape};
 use crate::second::job::JOB;
-use crate::second::layout::Layout;
+use crate::second::shelf::Shelf;
 
 /// The most bytes of a stripe and lost cells in a job, and the longest job, which has
 /// both.
@@ -18,18 +18,18 @@ const LONGEST: usize = 4 + 4 + 5 + (3 + 2 * MOST_LOST) + (3 + MOST as usize);
 
 /// The job of the scope document's example, with and without the cell size told, and
 /// others with stripes and lists longer than 256 bytes.
-const SMALL: Shape = Shape { code: 1, p: 3, cell: 1 };
+const SMALL: Shape = Shape::new(1, 3, 1);
 const BASES: [(Shape, bool); 4] = [
     (SMALL, true),
-    (Shape { code: 1, p: 3, cell: 512 }, false),
-    (Shape { code: 2, p: 7, cell: 512 }, false),
-    (Shape { code: 3, p: 11, cell: 259 }, true),
+    (Shape::new(1, 3, 512), false),
+    (Shape::new(2, 7, 512), false),
+    (Shape::new(3, 11, 259), true),
 ];
 
 /// As for the rebuild of these cells, where the job says so and there is room.
-pub fn known(case: &Case, layout: &Layout) -> Option<Answer> {
+pub fn known(case: &Case, shelf: &Shelf) -> Option<Answer> {
     let sent = case.sent.filter(|sent| sent.is_plain(case.call.shape) && sent.room == Room::Enough);
-    match case.lost.determined(layout).filter(|_| sent.is_some())? {
+    match case.lost.determined(shelf).filter(|_| sent.is_some())? {
         false => Some(Answer::answered(11, 4)),
         true if case.fill == Fill::Encoded => Some(Answer::answered(0, 7 + case.call.length)),
         true => None,
@@ -91,10 +91,10 @@ impl Cases<'_> {
     /// list, of stripes that are encoded and others.
     fn every_kind(&mut self) {
         for (code, p) in codes() {
-            let largest = (MOST / self.layout(code, p).cells() as u64).min(4096);
+            let largest = (MOST / self.full(code, p).cells() as u64).min(4096);
             let any = 1 + self.random.below(largest as usize) as u64;
             for cell in [1, 3, any, largest] {
-                let shape = Shape { code, p, cell };
+                let shape = Shape::new(code, p, cell);
                 let fill = self.random.one_of(&FILLS);
                 let [a, b] = [0, 1].map(|_| self.random.below(p as usize));
                 for (fill, base, less, more) in [
@@ -110,7 +110,7 @@ impl Cases<'_> {
             }
         }
         for (code, p) in codes().filter(|(_, p)| *p <= 7) {
-            self.good_job(Shape { code, p, cell: 512 }, Sent { cell_told: false, ..Sent::PLAIN });
+            self.good_job(Shape::new(code, p, 512), Sent { cell_told: false, ..Sent::PLAIN });
         }
     }
 
@@ -149,7 +149,7 @@ impl Cases<'_> {
     /// As many lost cells and stripe bytes as there may be, one more, and as many as a
     /// length can tell; the longest job, and one byte after it.
     fn limits(&mut self) {
-        let full = Shape { code: 1, p: 3, cell: 4096 };
+        let full = Shape::new(1, 3, 4096);
         for shape in [SMALL, full, Shape { code: 2, ..full }] {
             for length in [0, 1, 4094, 4095, 4096, 4097, 4098, 4100, 8192, 65_534, 65_535] {
                 self.good_job(shape, Sent { change: Change::Long(4, length), ..Sent::PLAIN });
@@ -179,14 +179,14 @@ impl Cases<'_> {
         for code in [0, 1, 3, 4, 255] {
             for p in [0, 3, 4, 33, 255] {
                 for cell in [0, 1, 4096, 4097, 65_535] {
-                    let right = self.second.length(self.mended(Shape { code, p, cell })).expect("good");
+                    let right = self.second.length(self.mended(Shape::new(code, p, cell))).expect("good");
                     for (length, odd) in [
                         (right.min(MOST), Odd::Nothing),
                         (right.min(MOST) - 1, Odd::Nothing),
                         (right.min(MOST), Odd::Number(9)),
                     ] {
                         let lost = Lost { odd, ..self.job_lost(Base::Cell(1), 0, 0) };
-                        self.push_job(Shape { code, p, cell }, length, Fill::Random, lost, Sent::PLAIN);
+                        self.push_job(Shape::new(code, p, cell), length, Fill::Random, lost, Sent::PLAIN);
                     }
                 }
             }
@@ -199,7 +199,7 @@ impl Cases<'_> {
             (Shape { code: 0, ..SMALL }, 8, Odd::Nothing),
             (Shape { p: 4, ..SMALL }, 8, Odd::Nothing),
             (Shape { cell: 0, ..SMALL }, 8, Odd::Nothing),
-            (Shape { code: 255, p: 255, cell: 65_535 }, 8, Odd::Number(65_535)),
+            (Shape::new(255, 255, 65_535), 8, Odd::Number(65_535)),
             (SMALL, 7, Odd::Nothing),
             (SMALL, 8, Odd::Number(8)),
         ] {
@@ -235,12 +235,12 @@ impl Cases<'_> {
     /// Most of them mutated, and most of those short.
     pub fn random_job(&mut self) {
         let Shape { code, p, .. } = self.random_shape();
-        let layout = self.layout(code, p);
-        let (columns, largest) = (layout.columns, (MOST / layout.cells() as u64).min(4096));
+        let shelf = self.full(code, p);
+        let (columns, largest) = (shelf.columns, (MOST / shelf.cells() as u64).min(4096));
         let short = self.random.below(4) > 0;
         let cell = 1 + self.random.below(if short { 3 } else { largest as usize }) as u64;
         let cell_told = !(p <= 7 && self.random.below(8) == 0);
-        let shape = Shape { code, p, cell: if cell_told { cell } else { 512 } };
+        let shape = Shape::new(code, p, if cell_told { cell } else { 512 });
         let change = match self.random.below(4) {
             0 => Change::Nothing,
             _ => Change::Mutated(1 + self.random.below(3)),

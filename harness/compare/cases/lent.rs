@@ -36,12 +36,13 @@ impl Case {
         let mut random = Random::new(seed, n as u64);
         let whole = self.stripe(second, &mut random);
         let bytes = self.new_bytes(second, &whole, &mut random);
-        let Shape { code, p, cell } = self.call.shape;
-        let layout = second.layout(code, p).unwrap_or(second.layout(1, 5).expect("a good shape"));
-        let cells = self.lost.cells(&self.call, layout, &mut random);
+        let Shape { cell, .. } = self.call.shape;
+        let another = || second.shelf(Shape::new(1, 5, 1)).expect("a good shape");
+        let shelf = second.shelf(self.call.shape).unwrap_or_else(another);
+        let cells = self.lost.cells(&self.call, shelf, &mut random);
         let lost = match self.fill {
             Fill::Written(n) => WRITTEN[n].lost.to_vec(),
-            _ if self.tells_lost() => self.lost.list(&cells, layout, &mut random),
+            _ if self.tells_lost() => self.lost.list(&cells, shelf, &mut random),
             _ => Vec::new(),
         };
         let mut stripe = whole.clone();
@@ -101,18 +102,17 @@ impl Case {
     }
 
     fn stripe(&self, second: &Second, random: &mut Random) -> Vec<u8> {
-        let Shape { code, p, cell } = self.call.shape;
-        let cell = cell as usize;
+        let cell = self.call.shape.cell as usize;
         let mut stripe = vec![0; lent_length(self.call.length)];
         match self.fill {
             Fill::Written(n) => stripe.copy_from_slice(WRITTEN[n].before),
             Fill::LoneByteInCell(n) => stripe[n * cell + random.below(cell)] = random.nonzero_byte(),
             Fill::Random => random.fill(&mut stripe),
             _ => {
-                let layout = second.layout(code, p).expect("a good shape");
+                let shelf = second.shelf(self.call.shape).expect("a good shape");
                 random.fill(&mut stripe);
-                layout.encode(cell, &mut stripe);
-                self.fill.damage(layout, cell, &mut stripe, random);
+                shelf.encode(cell, &mut stripe).expect("zeros stay");
+                self.fill.damage(shelf, cell, &mut stripe, random);
             }
         }
         stripe
@@ -127,8 +127,8 @@ impl Case {
         if self.new == New::Random {
             return bytes;
         }
-        if let Ok(layout) = (self.row.granted)(second, &self.call, &[]) {
-            let start = layout.start((row as usize, column as usize), bytes.len());
+        if let Ok(shelf) = (self.row.granted)(second, &self.call, &[]) {
+            let start = shelf.start((row as usize, column as usize), bytes.len());
             bytes = stripe[start..start + bytes.len()].to_vec();
         }
         if self.new == New::OneByte && !bytes.is_empty() {
@@ -140,7 +140,7 @@ impl Case {
 
     /// The answer, where it is known without computing.
     pub fn known(&self, second: &Second) -> Option<Answer> {
-        let layout = (self.row.granted)(second, &self.call, &[]).ok()?;
-        (self.row.known)(self, layout).filter(|_| self.lost.odd == Odd::Nothing)
+        let shelf = (self.row.granted)(second, &self.call, &[]).ok()?;
+        (self.row.known)(self, shelf).filter(|_| self.lost.odd == Odd::Nothing)
     }
 }

@@ -2,7 +2,7 @@
 
 use crate::random::Random;
 use crate::second::call::Call;
-use crate::second::layout::Layout;
+use crate::second::shelf::Shelf;
 
 /// The lost cells: those of a base, less some of them, and some others more.
 #[derive(Clone, Copy, PartialEq, Debug)]
@@ -72,20 +72,20 @@ impl Lost {
     };
 
     /// The lost cells, each once.
-    pub fn cells(&self, call: &Call, layout: &Layout, random: &mut Random) -> Vec<usize> {
+    pub fn cells(&self, call: &Call, shelf: &Shelf, random: &mut Random) -> Vec<usize> {
         let mut cells = match self.base {
-            Base::Told => return layout.in_columns(call.columns[0] as usize, call.columns[1] as usize),
+            Base::Told => return shelf.in_columns(call.columns[0] as usize, call.columns[1] as usize),
             Base::Empty => Vec::new(),
             Base::Cell(n) => vec![n],
-            Base::Columns(a, b) => layout.in_columns(a, b),
-            Base::Determined => determined(layout, random),
-            Base::Unread(k, plan) => unread(layout, k, plan),
+            Base::Columns(a, b) => shelf.in_columns(a, b),
+            Base::Determined => determined(shelf, random),
+            Base::Unread(k, plan) => unread(shelf, k, plan),
         };
         let base = cells.clone();
         random.shuffle(&mut cells);
         cells.truncate(cells.len().saturating_sub(self.less));
         if self.more > 0 {
-            let mut others: Vec<usize> = (0..layout.cells()).filter(|n| !base.contains(n)).collect();
+            let mut others: Vec<usize> = (0..shelf.cells()).filter(|n| !base.contains(n)).collect();
             random.shuffle(&mut others);
             cells.extend(others.into_iter().take(self.more));
         }
@@ -95,7 +95,7 @@ impl Lost {
     /// Whether the cells are determined, where it is known without computing: cells of
     /// at most two columns are; more cells than there are equations are not, and two
     /// columns and the largest determined sets have as many.
-    pub fn determined(&self, layout: &Layout) -> Option<bool> {
+    pub fn determined(&self, shelf: &Shelf) -> Option<bool> {
         let surely = match self.base {
             Base::Empty => self.more <= 2,
             Base::Cell(_) => self.more <= 1,
@@ -107,7 +107,7 @@ impl Lost {
             Base::Columns(a, b) => a != b,
             base => base == Base::Determined,
         };
-        let too_many = largest && self.more > self.less || self.more > layout.equations.len();
+        let too_many = largest && self.more > self.less || self.more > shelf.equations();
         if surely {
             Some(true)
         } else if too_many {
@@ -118,12 +118,12 @@ impl Lost {
     }
 
     /// The list that names those cells.
-    pub fn list(&self, cells: &[usize], layout: &Layout, random: &mut Random) -> Vec<u64> {
+    pub fn list(&self, cells: &[usize], shelf: &Shelf, random: &mut Random) -> Vec<u64> {
         let mut list: Vec<u64> = cells.iter().map(|&n| n as u64).collect();
         let again = match self.form {
             _ if cells.is_empty() => 0,
             Form::Doubled => 1 + random.below(cells.len()),
-            Form::Long => layout.cells() + 1 + random.below(layout.cells()),
+            Form::Long => shelf.cells() + 1 + random.below(shelf.cells()),
             Form::Huge => 100_000,
             Form::Filled(numbers) => numbers.saturating_sub(cells.len()),
             _ => 0,
@@ -163,27 +163,27 @@ impl Lost {
     }
 }
 
-fn unread(layout: &Layout, k: usize, plan: u64) -> Vec<usize> {
-    let read = layout.reads(k, plan).expect("an accepted plan");
-    let positions = (0..layout.cells()).map(|n| (n % layout.rows, n / layout.rows));
-    positions.filter(|position| !read.contains(position)).map(|position| layout.number(position)).collect()
+fn unread(shelf: &Shelf, k: usize, plan: u64) -> Vec<usize> {
+    let read = shelf.reads(k, plan).expect("an accepted plan");
+    (0..shelf.cells()).filter(|n| !read.contains(n)).collect()
 }
 
 /// Goes through the cells in random order and keeps each one whose equations are not
 /// the sum of those of some cells kept before.
-fn determined(layout: &Layout, random: &mut Random) -> Vec<usize> {
-    let mut equations = vec![0u64; layout.cells()];
-    for (k, equation) in layout.equations.iter().enumerate() {
+fn determined(shelf: &Shelf, random: &mut Random) -> Vec<usize> {
+    let mut holding = vec![0u64; shelf.whole.cells()];
+    for (k, equation) in shelf.whole.equations.iter().enumerate() {
         for &position in equation.sources.iter().chain([&equation.parity]) {
-            equations[layout.number(position)] |= 1 << k;
+            holding[shelf.whole.number(position)] |= 1 << k;
         }
     }
-    let mut order: Vec<usize> = (0..layout.cells()).collect();
+    let equations = |n| holding[shelf.whole.number(shelf.position(n))];
+    let mut order: Vec<usize> = (0..shelf.cells()).collect();
     random.shuffle(&mut order);
     // Each of the sums has a highest bit that no later one has.
     let mut sums: Vec<u64> = Vec::new();
     order.retain(|&n| {
-        let rest = sums.iter().fold(equations[n], |rest, sum| rest.min(rest ^ sum));
+        let rest = sums.iter().fold(equations(n), |rest, sum| rest.min(rest ^ sum));
         if rest != 0 {
             sums.push(rest);
         }

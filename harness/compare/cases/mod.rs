@@ -13,5 +13,6 @@ pub mod loans;
 pub mod rebuilds;
 pub mod runs;
 pub mod shapes;
+pub mod shelves;
 pub mod writes;
 pub mod written;

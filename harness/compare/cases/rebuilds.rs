@@ -6,18 +6,18 @@ use crate::cases::lists::{Base, Form, Found, Lost, Odd, FORMS};
 use crate::cases::loans::{LOST, STRIPE};
 use crate::cases::shapes::{any_p, codes, edge_shapes, outside, LARGE_CELLS, SMALL_CELLS};
 use crate::second::call::{Answer, Call, Lent, Shape};
-use crate::second::layout::Layout;
 use crate::second::rebuild::{BAD_COLUMN, REBUILD_CELLS, REBUILD_COLUMNS};
+use crate::second::shelf::Shelf;
 
-pub fn known_cells(case: &Case, layout: &Layout) -> Option<Answer> {
-    match case.lost.determined(layout)? {
+pub fn known_cells(case: &Case, shelf: &Shelf) -> Option<Answer> {
+    match case.lost.determined(shelf)? {
         false => Some(Answer::refused(11)),
         true => (case.fill == Fill::Encoded).then_some(Answer::refused(0)),
     }
 }
 
 /// Two columns have as many cells as there are equations: any bytes fit.
-pub fn known_columns(case: &Case, _: &Layout) -> Option<Answer> {
+pub fn known_columns(case: &Case, _: &Shelf) -> Option<Answer> {
     let [a, b] = case.call.columns;
     (a != b || case.fill == Fill::Encoded).then_some(Answer::refused(0))
 }
@@ -40,7 +40,7 @@ impl Cases<'_> {
         self.rebuild_any_p();
     }
 
-    fn push_lost(&mut self, call: Call, fill: Fill, lost: Lost) {
+    pub fn push_lost(&mut self, call: Call, fill: Fill, lost: Lost) {
         let empty = lost.base == Base::Empty && lost.more == 0 && lost.odd == Odd::Nothing;
         let mut case = Case { lost, ..self.case(call, fill) };
         if case.row.lends.contains(&LOST) {
@@ -63,17 +63,17 @@ impl Cases<'_> {
 
     /// Has junk found in the lost cells of the last case, so that it shows whether they
     /// come back.
-    fn junk(&mut self) {
+    pub fn junk(&mut self) {
         self.list.last_mut().expect("a case").lost.found = Found::Random;
     }
 
-    fn lost_cells(&mut self, shape: Shape, fill: Fill, base: Base, less: usize, more: usize) {
+    pub fn lost_cells(&mut self, shape: Shape, fill: Fill, base: Base, less: usize, more: usize) {
         let lost = self.some_lost(base, less, more);
         self.push_lost(self.good_call(REBUILD_CELLS, shape), fill, lost);
     }
 
     /// The columns in either order.
-    fn lost_columns(&mut self, shape: Shape, fill: Fill, a: usize, b: usize) {
+    pub fn lost_columns(&mut self, shape: Shape, fill: Fill, a: usize, b: usize) {
         let mut columns = [a as u64, b as u64];
         self.random.shuffle(&mut columns);
         let lost = self.some_lost(Base::Told, 0, 0);
@@ -84,9 +84,9 @@ impl Cases<'_> {
     /// stripe, and of one in which a bit is wrong, mostly in a survivor.
     fn every_lost_cell(&mut self) {
         for (code, p) in codes() {
-            for n in 0..self.layout(code, p).cells() {
+            for n in 0..self.full(code, p).cells() {
                 for fill in [Fill::Encoded, Fill::BitDamaged] {
-                    let shape = Shape { code, p, cell: self.some_cell(p) };
+                    let shape = Shape::new(code, p, self.some_cell(p));
                     self.lost_cells(shape, fill, Base::Cell(n), 0, 0);
                     self.junk();
                 }
@@ -99,9 +99,9 @@ impl Cases<'_> {
     /// with another in its place.
     fn every_two_columns(&mut self) {
         for (code, p) in codes() {
-            let columns = self.layout(code, p).columns;
+            let columns = self.full(code, p).columns;
             for (a, b) in (0..columns).flat_map(|b| (0..=b).map(move |a| (a, b))) {
-                let shape = Shape { code, p, cell: self.some_cell(p) };
+                let shape = Shape::new(code, p, self.some_cell(p));
                 let (base, fill) = (Base::Columns(a, b), self.random.one_of(&FILLS));
                 self.lost_columns(shape, Fill::Encoded, a, b);
                 self.junk();
@@ -118,8 +118,8 @@ impl Cases<'_> {
     /// Random sets of every size, from none to all.
     fn every_size(&mut self) {
         for (code, p) in codes() {
-            for size in 0..=self.layout(code, p).cells() {
-                let shape = Shape { code, p, cell: self.random.one_of(&[1, 1, 2, 3]) };
+            for size in 0..=self.full(code, p).cells() {
+                let shape = Shape::new(code, p, self.random.one_of(&[1, 1, 2, 3]));
                 let fill = self.random.one_of(&FILLS);
                 self.lost_cells(shape, fill, Base::Empty, 0, size);
             }
@@ -131,10 +131,10 @@ impl Cases<'_> {
     /// cells, and those with one or two others in their place.
     fn on_the_edge(&mut self) {
         for (code, p) in codes() {
-            let equations = self.layout(code, p).equations.len();
+            let equations = self.full(code, p).equations();
             for k in 0..=equations + 2 {
                 for fill in [Fill::Encoded, Fill::BitDamaged, Fill::SeveralDamaged] {
-                    let shape = Shape { code, p, cell: self.some_cell(p) };
+                    let shape = Shape::new(code, p, self.some_cell(p));
                     self.lost_cells(shape, fill, Base::Empty, 0, k);
                     self.lost_cells(shape, fill, Base::Determined, k, 0);
                     self.lost_cells(shape, fill, Base::Determined, k, 1);
@@ -150,10 +150,10 @@ impl Cases<'_> {
     fn rebuild_shapes(&mut self) {
         for (code, p) in codes() {
             for cell in SMALL_CELLS {
-                self.rebuild_fills(Shape { code, p, cell }, &FILLS);
+                self.rebuild_fills(Shape::new(code, p, cell), &FILLS);
             }
             for cell in LARGE_CELLS {
-                let shape = Shape { code, p, cell };
+                let shape = Shape::new(code, p, cell);
                 if p <= 7 {
                     self.rebuild_fills(shape, &FILLS);
                 } else if p == 31 {
@@ -178,9 +178,9 @@ impl Cases<'_> {
 
     /// A rebuild of each kind: one column, two, no cell, a few cells, a part of a column
     /// and another cell, a determined set, and one on the edge.
-    fn some_rebuilds(&mut self, shape: Shape, fill: Fill) {
-        let layout = self.layout(shape.code, shape.p);
-        let (columns, equations) = (layout.columns, layout.equations.len());
+    pub fn some_rebuilds(&mut self, shape: Shape, fill: Fill) {
+        let shelf = self.shelf(shape);
+        let (columns, equations) = (shelf.columns, shelf.equations());
         let [a, b] = [self.random.below(columns), self.random.below(columns)];
         let (few, most) = (1 + self.random.below(4), self.random.below(equations));
         self.lost_columns(shape, fill, a, a);
@@ -195,7 +195,7 @@ impl Cases<'_> {
     /// Lists many times as long as the stripe has cells.
     fn long_lists(&mut self) {
         for (code, p) in codes().filter(|(_, p)| [3, 31].contains(p)) {
-            let shape = Shape { code, p, cell: 3 };
+            let shape = Shape::new(code, p, 3);
             for (base, more) in [(Base::Columns(0, 1), 0), (Base::Columns(0, 2), 1), (Base::Cell(5), 0)] {
                 let lost = Lost { form: Form::Huge, ..self.some_lost(base, 0, more) };
                 for odd in [Odd::Nothing, Odd::Number(p * p)] {
@@ -210,8 +210,8 @@ impl Cases<'_> {
     /// ones when cut short, or whose place in the stripe is, counted modulo 2^64.
     fn numbers_outside(&mut self) {
         for (code, p) in codes() {
-            let (cells, columns) = (self.layout(code, p).cells(), self.layout(code, p).columns);
-            let shape = Shape { code, p, cell: self.random.one_of(&[1, 64]) };
+            let (cells, columns) = (self.full(code, p).cells(), self.full(code, p).columns);
+            let shape = Shape::new(code, p, self.random.one_of(&[1, 64]));
             let (n, column) = (self.random.below(cells), self.random.below(columns));
             for outside in outside(n as u64, cells as u64) {
                 for (base, more) in [(Base::Empty, 0), (Base::Cell(n), 0), (Base::Columns(0, column), 1)] {
@@ -237,8 +237,8 @@ impl Cases<'_> {
 
     fn bad_lengths(&mut self, shape: Shape) {
         let good = self.mended(shape);
-        let layout = self.second.layout(good.code, good.p).expect("a good shape");
-        let (cells, columns) = (layout.cells() as u64, layout.columns as u64);
+        let shelf = self.shelf(good);
+        let (cells, columns) = (shelf.cells() as u64, shelf.columns as u64);
         let right = cells * if shape.cell == 4097 { 4097 } else { good.cell };
         for length in [0, right - 1, right, right + 1, u64::MAX] {
             self.bad_lists(Call::new(REBUILD_CELLS, shape, length), cells);
@@ -278,8 +278,8 @@ impl Cases<'_> {
     pub fn random_rebuild(&mut self) {
         let shape = self.random_shape();
         let fill = self.random.one_of(&FILLS);
-        let layout = self.layout(shape.code, shape.p);
-        let (columns, equations) = (layout.columns, layout.equations.len());
+        let shelf = self.shelf(shape);
+        let (columns, equations) = (shelf.columns, shelf.equations());
         let [a, b] = [self.random.below(columns), self.random.below(columns)];
         let [less, more] = [self.random.below(6), self.random.below(3)];
         match self.random.below(8) {

@@ -8,8 +8,8 @@ use crate::cases::shapes::{any_p, codes, edge_shapes, outside};
 use crate::cases::shapes::{CODES, LARGE_CELLS, SMALL_CELLS, SOME_CELLS, SOME_P};
 use crate::random::Random;
 use crate::second::call::{Answer, Call, Lent, Operation, Shape};
-use crate::second::layout::Layout;
 use crate::second::shapes::PRIMES;
+use crate::second::shelf::Shelf;
 use crate::second::spare::{PLAN, RUN, SHOW};
 
 /// Where every plan, row and column is tried.
@@ -20,10 +20,13 @@ fn lost_columns() -> impl Iterator<Item = (u64, u64)> {
     PRIMES.into_iter().flat_map(|p| (0..=p).map(move |k| (p, k)))
 }
 
-pub fn known_plan(case: &Case, layout: &Layout) -> Option<Answer> {
-    let (k, rows) = (case.call.k, layout.rows as u64);
-    let reads = if k == case.call.shape.p { rows * rows } else { 3 * rows * rows / 4 };
-    Some(Answer::planned(layout.rule(k as usize), reads))
+pub fn known_plan(case: &Case, shelf: &Shelf) -> Option<Answer> {
+    let (k, rows, m) = (case.call.k, shelf.rows as u64, shelf.columns as u64 - 2);
+    let reads = match k == m + 1 {
+        true => Some((m + 1) * rows - m),
+        false => (m == rows).then_some(3 * rows * rows / 4),
+    };
+    reads.map(|reads| Answer::planned(shelf.rule(k as usize), reads))
 }
 
 /// The rebuilt rows of the lost column.
@@ -80,7 +83,7 @@ impl Cases<'_> {
         self.bad_shows();
     }
 
-    fn push_plan(&mut self, shape: Shape, k: u64) {
+    pub fn push_plan(&mut self, shape: Shape, k: u64) {
         let case = self.case(Call { k, ..Call::new(PLAN, shape, 0) }, Fill::Random);
         self.list.push(case);
     }
@@ -91,7 +94,7 @@ impl Cases<'_> {
         for (code, p) in codes() {
             for k in (0..=p).chain([p + 2]).chain(outside(self.random.below(p as usize) as u64, p + 1)) {
                 let cell = self.random.one_of(&[1, 2, 512, 4096]);
-                self.push_plan(Shape { code, p, cell }, k);
+                self.push_plan(Shape::new(code, p, cell), k);
             }
         }
     }
@@ -102,7 +105,7 @@ impl Cases<'_> {
             for p in SOME_P {
                 for cell in SOME_CELLS {
                     for k in [0, 3, u64::MAX] {
-                        self.push_plan(Shape { code, p, cell }, k);
+                        self.push_plan(Shape::new(code, p, cell), k);
                     }
                 }
             }
@@ -114,17 +117,17 @@ impl Cases<'_> {
 
     /// A call of a run or a show with a stripe and a spare of the right lengths.
     fn spare_call(&self, operation: Operation, shape: Shape, k: u64) -> Call {
-        let spare_length = self.layout(shape.code, shape.p).rows as u64 * shape.cell;
+        let spare_length = self.shelf(shape).rows as u64 * shape.cell;
         Call { k, spare_length, ..self.good_call(operation, shape) }
     }
 
     /// A run of the whole column.
-    fn whole(&self, p: u64, cell: u64, k: u64, plan: u64) -> Call {
-        Call { plan, budget: p - 1, ..self.spare_call(RUN, Shape { code: 1, p, cell }, k) }
+    pub fn whole(&self, shape: Shape, k: u64, plan: u64) -> Call {
+        Call { plan, budget: shape.p - 1, ..self.spare_call(RUN, shape, k) }
     }
 
     /// Junk is found in the lost column, or in every cell that the plan doesn't read.
-    fn push_run(&mut self, call: Call, fill: Fill, pieces: Pieces) {
+    pub fn push_run(&mut self, call: Call, fill: Fill, pieces: Pieces) {
         let k = call.k as usize;
         let good = !self.is_refused(&call);
         let base = match self.random.below(2) {
@@ -137,16 +140,26 @@ impl Cases<'_> {
         self.list.push(case);
     }
 
-    fn rule(&self, p: u64, k: u64) -> u64 {
-        self.layout(1, p).rule(k as usize)
+    pub fn rule(&self, shape: Shape, k: u64) -> u64 {
+        self.shelf(shape).rule(k as usize)
+    }
+
+    /// The row of column k that has no diagonal, as a plan's bit; 0 where there is none.
+    pub fn forced(&self, shape: Shape, k: u64) -> u64 {
+        let inside = self.shelf(shape).there[k as usize] as u64;
+        if (1..shape.p).contains(&inside) {
+            1 << (shape.p - 1 - inside)
+        } else {
+            0
+        }
     }
 
     /// Any accepted plan.
-    fn accepted(&mut self, p: u64, k: u64) -> u64 {
-        let all = (1 << (p - 1)) - 1;
-        let forced = if (1..p).contains(&k) { 1 << (p - 1 - k) } else { 0 };
-        let some = if k == p { all } else { self.random.number() & all & !forced };
-        assert!(self.layout(1, p).accepts(k as usize, some), "the plan is accepted");
+    pub fn accepted(&mut self, shape: Shape, k: u64) -> u64 {
+        let (all, shelf) = ((1 << (shape.p - 1)) - 1, self.shelf(shape));
+        let last = k as usize + 1 == shelf.columns;
+        let some = if last { all } else { self.random.number() & all & !self.forced(shape, k) };
+        assert!(shelf.accepts(k as usize, some), "the plan is accepted");
         some
     }
 
@@ -154,8 +167,8 @@ impl Cases<'_> {
     fn every_run(&mut self) {
         for (p, k) in lost_columns() {
             for fill in FILLS {
-                let cell = self.some_cell(p);
-                self.push_run(self.whole(p, cell, k, self.rule(p, k)), fill, Pieces::One);
+                let shape = Shape::new(1, p, self.some_cell(p));
+                self.push_run(self.whole(shape, k, self.rule(shape, k)), fill, Pieces::One);
             }
         }
     }
@@ -164,16 +177,21 @@ impl Cases<'_> {
     /// pieces too, and of stripes that are not encoded.
     fn every_small_plan(&mut self) {
         for p in SMALL_PRIMES {
-            for (k, plan) in (0..=p).flat_map(|k| (0..1 << (p + 1)).map(move |plan| (k, plan))) {
-                let cell = self.some_cell(p);
-                let call = self.whole(p, cell, k, plan);
-                self.push_run(call, Fill::Encoded, Pieces::One);
-                if !self.is_refused(&call) {
-                    let fill = self.random.one_of(&FILLS);
-                    self.push_run(call, fill, Pieces::One);
-                    self.push_run(Call { budget: 1, ..call }, Fill::Encoded, Pieces::Same);
-                    self.push_run(Call { budget: 2, ..call }, fill, Pieces::Random);
-                }
+            (0..=p).for_each(|k| self.every_plan_of(Shape::new(1, p, 1), k));
+        }
+    }
+
+    /// Of one column, with cells of any size.
+    pub fn every_plan_of(&mut self, shape: Shape, k: u64) {
+        for plan in 0..1 << (shape.p + 1) {
+            let shape = Shape { cell: self.some_cell(shape.p), ..shape };
+            let call = self.whole(shape, k, plan);
+            self.push_run(call, Fill::Encoded, Pieces::One);
+            if !self.is_refused(&call) {
+                let fill = self.random.one_of(&FILLS);
+                self.push_run(call, fill, Pieces::One);
+                self.push_run(Call { budget: 1, ..call }, Fill::Encoded, Pieces::Same);
+                self.push_run(Call { budget: 2, ..call }, fill, Pieces::Random);
             }
         }
     }
@@ -181,13 +199,14 @@ impl Cases<'_> {
     fn other_plans(&mut self) {
         for (p, k) in lost_columns() {
             for _ in 0..8 {
-                let (cell, plan) = (self.some_cell(p), self.accepted(p, k));
-                let fill = self.random.one_of(&FILLS);
-                self.push_run(self.whole(p, cell, k, plan), Fill::Encoded, Pieces::One);
-                self.push_run(self.whole(p, cell, k, plan), fill, Pieces::One);
+                let shape = Shape::new(1, p, self.some_cell(p));
+                let (plan, fill) = (self.accepted(shape, k), self.random.one_of(&FILLS));
+                self.push_run(self.whole(shape, k, plan), Fill::Encoded, Pieces::One);
+                self.push_run(self.whole(shape, k, plan), fill, Pieces::One);
             }
-            let (cell, plan) = (self.some_cell(p), self.accepted(p, k));
-            self.push_run(self.whole(p, cell, k, plan), Fill::Encoded, Pieces::Random);
+            let shape = Shape::new(1, p, self.some_cell(p));
+            let plan = self.accepted(shape, k);
+            self.push_run(self.whole(shape, k, plan), Fill::Encoded, Pieces::Random);
         }
     }
 
@@ -195,9 +214,9 @@ impl Cases<'_> {
     fn every_piece(&mut self) {
         for (p, k) in lost_columns() {
             for budget in 1..=p - 1 {
-                let cell = self.random.one_of(&SMALL_CELLS);
-                let plan = if self.random.below(2) == 0 { self.rule(p, k) } else { self.accepted(p, k) };
-                let call = Call { budget, ..self.whole(p, cell, k, plan) };
+                let shape = Shape::new(1, p, self.random.one_of(&SMALL_CELLS));
+                let plan = self.rule_or_other(shape, k);
+                let call = Call { budget, ..self.whole(shape, k, plan) };
                 self.push_run(call, Fill::Encoded, Pieces::Same);
             }
         }
@@ -212,9 +231,10 @@ impl Cases<'_> {
                 let left = (p - 1).saturating_sub(first);
                 for budget in [0, 1, 2, left.saturating_sub(1), left, left + 1, 1 << 32, u64::MAX] {
                     let k = self.random.below(p as usize + 1) as u64;
-                    let (cell, plan) = (self.some_cell(p), self.accepted(p, k));
+                    let shape = Shape::new(1, p, self.some_cell(p));
+                    let plan = self.accepted(shape, k);
                     let fill = self.random.one_of(&[Fill::Encoded, Fill::Random]);
-                    let call = Call { first, budget, ..self.whole(p, cell, k, plan) };
+                    let call = Call { first, budget, ..self.whole(shape, k, plan) };
                     self.push_run(call, fill, Pieces::One);
                 }
             }
@@ -225,18 +245,23 @@ impl Cases<'_> {
     /// any row of column p; all bits. A refused plan is refused for no rows too.
     fn refused_plans(&mut self) {
         for (p, k) in lost_columns() {
-            let plan = self.accepted(p, k);
-            let above = [p - 1, p, p + 1, 31, 32, 63].map(|bit| plan | 1 << bit);
-            let forced = if (1..p).contains(&k) { vec![plan | 1 << (p - 1 - k)] } else { Vec::new() };
-            let missing = (0..p - 1).map(|bit| plan & !(1 << bit)).filter(|_| k == p);
-            let others = [0, (1 << (p - 1)) - 1, 1 << 63, u64::MAX];
-            for plan in above.into_iter().chain(forced).chain(missing).chain(others) {
-                let cell = self.random.one_of(&SMALL_CELLS);
-                let first = self.random.one_of(&[0, 0, 1, p - 1]);
-                let budget = self.random.one_of(&[0, 1, p, u64::MAX]);
-                let call = Call { first, budget, ..self.whole(p, cell, k, plan) };
-                self.push_run(call, Fill::Encoded, Pieces::One);
-            }
+            self.refused_plans_of(Shape::new(1, p, 1), k);
+        }
+    }
+
+    pub fn refused_plans_of(&mut self, shape: Shape, k: u64) {
+        let (p, plan, forced) = (shape.p, self.accepted(shape, k), self.forced(shape, k));
+        let last = k as usize + 1 == self.shelf(shape).columns;
+        let above = [p - 1, p, p + 1, 31, 32, 63].map(|bit| plan | 1 << bit);
+        let forced = (forced != 0).then_some(plan | forced);
+        let missing = (0..p - 1).map(|bit| plan & !(1 << bit)).filter(|_| last);
+        let others = [0, (1 << (p - 1)) - 1, 1 << 63, u64::MAX];
+        for plan in above.into_iter().chain(forced).chain(missing).chain(others) {
+            let shape = Shape { cell: self.random.one_of(&SMALL_CELLS), ..shape };
+            let first = self.random.one_of(&[0, 0, 1, p - 1]);
+            let budget = self.random.one_of(&[0, 1, p, u64::MAX]);
+            let call = Call { first, budget, ..self.whole(shape, k, plan) };
+            self.push_run(call, Fill::Encoded, Pieces::One);
         }
     }
 
@@ -248,7 +273,7 @@ impl Cases<'_> {
             for cell in SMALL_CELLS.into_iter().chain([63, 65, 127, 128, 129, 255]).chain(large) {
                 for stripe in self.places() {
                     for spare in self.places() {
-                        self.some_run(p, cell);
+                        self.some_run(Shape::new(1, p, cell));
                         let case = self.list.last_mut().expect("a run");
                         (case.loans[STRIPE].place, case.loans[SPARE].place) = (stripe, spare);
                     }
@@ -257,19 +282,31 @@ impl Cases<'_> {
         }
         for cell in 1..=4096 {
             if cell % 31 == 0 || !(70..=4090).contains(&cell) {
-                self.some_run(3, cell);
+                self.some_run(Shape::new(1, 3, cell));
             }
         }
     }
 
     /// A run of a column that needn't start at row 0 and mostly ends before the last.
-    fn some_run(&mut self, p: u64, cell: u64) {
-        let k = self.random.below(p as usize + 1) as u64;
-        let plan = if self.random.below(2) == 0 { self.rule(p, k) } else { self.accepted(p, k) };
-        let first = if self.random.below(2) == 0 { 0 } else { self.random.below(p as usize) as u64 };
-        let budget = self.random.below(p as usize + 2) as u64;
+    pub fn some_run(&mut self, shape: Shape) {
+        let (k, p) = (self.some_column(shape), shape.p as usize);
+        let plan = self.rule_or_other(shape, k);
+        let first = if self.random.below(2) == 0 { 0 } else { self.random.below(p) as u64 };
+        let budget = self.random.below(p + 2) as u64;
         let fill = self.random.one_of(&FILLS);
-        self.push_run(Call { first, budget, ..self.whole(p, cell, k, plan) }, fill, Pieces::One);
+        self.push_run(Call { first, budget, ..self.whole(shape, k, plan) }, fill, Pieces::One);
+    }
+
+    fn some_column(&mut self, shape: Shape) -> u64 {
+        self.random.below(self.shelf(shape).columns) as u64
+    }
+
+    fn rule_or_other(&mut self, shape: Shape, k: u64) -> u64 {
+        if self.random.below(2) == 0 {
+            self.rule(shape, k)
+        } else {
+            self.accepted(shape, k)
+        }
     }
 
     /// Lost columns past the last, with plans that are accepted for some column.
@@ -277,7 +314,7 @@ impl Cases<'_> {
         for p in PRIMES {
             for k in outside(self.random.below(p as usize) as u64, p + 1) {
                 let plan = self.random.one_of(&[0, 1, (1 << (p - 1)) - 1]);
-                let call = Call { k, plan, ..self.whole(p, 1, 0, 0) };
+                let call = Call { k, plan, ..self.whole(Shape::new(1, p, 1), 0, 0) };
                 self.push_run(call, Fill::Encoded, Pieces::One);
             }
         }
@@ -287,7 +324,7 @@ impl Cases<'_> {
     /// as long as the other, with all else good and with numbers outside or a bad plan.
     fn wrong_lengths(&mut self) {
         for (p, cell) in PRIMES.into_iter().flat_map(|p| [1, 3, 64].map(|cell| (p, cell))) {
-            let good = self.whole(p, cell, 1, 0);
+            let good = self.whole(Shape::new(1, p, cell), 1, 0);
             let (stripe, spare) = (good.length, good.spare_length);
             let stripes = [0, 1, stripe - 1, stripe + 1, stripe - cell, stripe + cell, p * p * cell, spare];
             let spares = [0, 1, spare - 1, spare + 1, spare - cell, spare + cell, 2 * spare, stripe];
@@ -329,9 +366,9 @@ impl Cases<'_> {
         let mut calls = Vec::new();
         for shape in edge_shapes() {
             let good = self.mended(shape);
-            let layout = self.layout(good.code, good.p);
+            let shelf = self.shelf(good);
             let cell = if shape.cell == 4097 { 4097 } else { good.cell };
-            let (stripe, spare) = (layout.cells() as u64 * cell, layout.rows as u64 * cell);
+            let (stripe, spare) = (shelf.cells() as u64 * cell, shelf.rows as u64 * cell);
             let near = [(stripe, spare), (stripe - 1, spare), (stripe, spare + 1), (stripe, spare - 1)];
             let far = [(0, spare), (stripe, 0), (u64::MAX, spare), (stripe, u64::MAX), (spare, stripe)];
             let past = [(stripe + (1 << 32), spare), (stripe, spare + (1 << 32)), (stripe, spare + cell)];
@@ -342,23 +379,27 @@ impl Cases<'_> {
         calls
     }
 
-    fn push_show(&mut self, call: Call) {
+    pub fn push_show(&mut self, call: Call) {
         let case = self.case(call, Fill::Random);
         self.list.push(case);
     }
 
-    fn show(&self, p: u64, cell: u64, [k, done, row, column]: [u64; 4]) -> Call {
-        Call { done, row, column, ..self.spare_call(SHOW, Shape { code: 1, p, cell }, k) }
+    pub fn show(&self, shape: Shape, [k, done, row, column]: [u64; 4]) -> Call {
+        Call { done, row, column, ..self.spare_call(SHOW, shape, k) }
     }
 
     /// Every lost column, rows done, row and column, up to one past the last of each.
     fn every_small_show(&mut self) {
-        for p in SMALL_PRIMES {
-            for (k, done) in (0..=p + 1).flat_map(|k| (0..=p).map(move |done| (k, done))) {
-                for (row, column) in (0..p).flat_map(|row| (0..=p + 1).map(move |column| (row, column))) {
-                    let cell = self.random.one_of(&[1, 2, 3, 7]);
-                    self.push_show(self.show(p, cell, [k, done, row, column]));
-                }
+        SMALL_PRIMES.into_iter().for_each(|p| self.every_show_of(Shape::new(1, p, 1)));
+    }
+
+    /// With cells of any size.
+    pub fn every_show_of(&mut self, shape: Shape) {
+        let (p, columns) = (shape.p, self.shelf(shape).columns as u64);
+        for (k, done) in (0..=columns).flat_map(|k| (0..=p).map(move |done| (k, done))) {
+            for (row, column) in (0..p).flat_map(|row| (0..=columns).map(move |column| (row, column))) {
+                let cell = self.random.one_of(&[1, 2, 3, 7]);
+                self.push_show(self.show(Shape { cell, ..shape }, [k, done, row, column]));
             }
         }
     }
@@ -367,7 +408,7 @@ impl Cases<'_> {
     fn other_shows(&mut self) {
         for (p, k) in lost_columns().filter(|(p, _)| !SMALL_PRIMES.contains(p)) {
             for done in 0..=p {
-                self.some_show(p, k, done);
+                self.some_show(Shape::new(1, p, 1), k, done);
             }
         }
         for p in [3, 7, 31] {
@@ -376,19 +417,20 @@ impl Cases<'_> {
                     let k = self.random.below(p as usize + 1) as u64;
                     let row = self.random.below(p as usize - 1) as u64;
                     let done = row + self.random.below(2) as u64;
-                    self.push_show(self.show(p, cell, [k, done, row, k]));
+                    self.push_show(self.show(Shape::new(1, p, cell), [k, done, row, k]));
                 }
             }
         }
     }
 
-    /// Most of the lost column, and most of a row about those done.
-    fn some_show(&mut self, p: u64, k: u64, done: u64) {
-        let column = if self.random.below(3) == 0 { self.random.below(p as usize + 2) as u64 } else { k };
-        let any = self.random.below(p as usize) as u64;
+    /// Most of the lost column, and most of a row about those done. With cells of any size.
+    pub fn some_show(&mut self, shape: Shape, k: u64, done: u64) {
+        let columns = self.shelf(shape).columns;
+        let column = if self.random.below(3) == 0 { self.random.below(columns + 1) as u64 } else { k };
+        let any = self.random.below(shape.p as usize) as u64;
         let row = self.random.one_of(&[done, done.saturating_sub(1), 0, any]);
-        let cell = self.some_cell(p);
-        self.push_show(self.show(p, cell, [k, done, row, column]));
+        let cell = self.some_cell(shape.p);
+        self.push_show(self.show(Shape { cell, ..shape }, [k, done, row, column]));
     }
 
     /// Each number in turn far outside, with a cell that is refused as 10 otherwise and
@@ -401,7 +443,7 @@ impl Cases<'_> {
                     for far in outside(good[place], p + 1) {
                         let mut numbers = good;
                         numbers[place] = far;
-                        self.push_show(self.show(p, cell, numbers));
+                        self.push_show(self.show(Shape::new(1, p, cell), numbers));
                     }
                 }
             }
@@ -419,22 +461,24 @@ impl Cases<'_> {
     }
 
     pub fn random_run(&mut self) {
-        let Shape { p, cell, .. } = self.random_shape();
+        let shape = Shape { code: 1, ..self.random_shape() };
         if self.random.below(8) > 0 {
-            return self.some_run(p, cell);
+            return self.some_run(shape);
         }
-        let k = self.random.below(p as usize + 1) as u64;
-        let plan = self.accepted(p, k);
-        let call = Call { budget: self.random.below(4) as u64, ..self.whole(p, cell, k, plan) };
+        let k = self.some_column(shape);
+        let plan = self.accepted(shape, k);
+        let call = Call { budget: self.random.below(4) as u64, ..self.whole(shape, k, plan) };
         self.push_run(call, Fill::Encoded, Pieces::Random);
     }
 
     pub fn random_plan_or_show(&mut self) {
         let shape = self.random_shape();
-        let [k, done] = [self.random.below(shape.p as usize + 2), self.random.below(shape.p as usize + 1)];
+        let rdp = Shape { code: 1, ..shape };
+        let columns = self.shelf(rdp).columns;
+        let [k, done] = [self.random.below(columns + 1), self.random.below(shape.p as usize + 1)];
         if self.random.below(8) == 0 {
             return self.push_plan(shape, k as u64);
         }
-        self.some_show(shape.p, k as u64, done as u64);
+        self.some_show(rdp, k as u64, done as u64);
     }
 }

@@ -24,7 +24,7 @@ pub fn codes() -> impl Iterator<Item = (u64, u64)> {
 pub fn any_p() -> impl Iterator<Item = (Shape, u64)> {
     (0..=133u64).flat_map(|p| {
         let short = (p * p).wrapping_sub(1);
-        [(1, short), (2, short), (3, p * p)].map(|(code, length)| (Shape { code, p, cell: 1 }, length))
+        [(1, short), (2, short), (3, p * p)].map(|(code, length)| (Shape::new(code, p, 1), length))
     })
 }
 
@@ -33,7 +33,7 @@ pub fn any_p() -> impl Iterator<Item = (Shape, u64)> {
 pub fn edge_shapes() -> impl Iterator<Item = Shape> {
     let codes_and_p =
         [0, 1, 2, 3, 4, u64::MAX].into_iter().flat_map(|code| [0, 5, 32, u64::MAX].map(|p| (code, p)));
-    codes_and_p.flat_map(|(code, p)| [0, 3, 4097, u64::MAX].map(|cell| Shape { code, p, cell }))
+    codes_and_p.flat_map(|(code, p)| [0, 3, 4097, u64::MAX].map(|cell| Shape::new(code, p, cell)))
 }
 
 /// Numbers past the end, most of them made of a good one. A good one and 256 may still

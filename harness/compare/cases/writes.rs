@@ -23,12 +23,12 @@ impl Cases<'_> {
         self.write_any_p();
     }
 
-    fn push_write(&mut self, call: Call, fill: Fill, new: New) {
+    pub fn push_write(&mut self, call: Call, fill: Fill, new: New) {
         let case = Case { new, ..self.case(call, fill) };
         self.list.push(case);
     }
 
-    fn write(&self, shape: Shape, (row, column): Position) -> Call {
+    pub fn write(&self, shape: Shape, (row, column): Position) -> Call {
         let length = self.second.length(shape).expect("a good shape");
         let (row, column) = (row as u64, column as u64);
         Call { row, column, bytes_length: shape.cell, ..Call::new(WRITE, shape, length) }
@@ -36,10 +36,10 @@ impl Cases<'_> {
 
     /// A random position of data or of parity.
     fn position(&mut self, shape: Shape, parity: bool) -> Position {
-        let layout = self.second.layout(shape.code, shape.p).expect("a good shape");
+        let shelf = self.shelf(shape);
         loop {
-            let position = (self.random.below(layout.rows), self.random.below(layout.columns));
-            if layout.is_parity(position) == parity {
+            let position = (self.random.below(shelf.rows), self.random.below(shelf.columns));
+            if shelf.is_parity(position) == parity {
                 return position;
             }
         }
@@ -52,7 +52,7 @@ impl Cases<'_> {
             let side = p as usize + 2;
             for position in (0..side).flat_map(|row| (0..side).map(move |column| (row, column))) {
                 let cell = self.random.one_of(&[1, 2, 3, 7]);
-                let call = self.write(Shape { code, p, cell }, position);
+                let call = self.write(Shape::new(code, p, cell), position);
                 let (fill, new) = (self.random.one_of(&FILLS), self.random.one_of(&NEWS));
                 if p > 13 {
                     self.push_write(call, fill, new);
@@ -70,10 +70,10 @@ impl Cases<'_> {
     fn write_shapes(&mut self) {
         for (code, p) in codes() {
             for cell in SMALL_CELLS {
-                self.all_places(Shape { code, p, cell });
+                self.all_places(Shape::new(code, p, cell));
             }
             for cell in LARGE_CELLS {
-                let shape = Shape { code, p, cell };
+                let shape = Shape::new(code, p, cell);
                 if p <= 7 {
                     self.all_places(shape);
                 } else if p == 31 {
@@ -108,10 +108,10 @@ impl Cases<'_> {
 
     fn bad_operands(&mut self, shape: Shape) {
         let good = self.mended(shape);
-        let layout = self.second.layout(good.code, good.p).expect("a good shape");
+        let shelf = self.shelf(good);
         let cell = if shape.cell == 4097 { 4097 } else { good.cell };
-        let right = layout.cells() as u64 * cell;
-        let [rows, columns] = [layout.rows, layout.columns].map(|end| {
+        let right = shelf.cells() as u64 * cell;
+        let [rows, columns] = [shelf.rows, shelf.columns].map(|end| {
             let end = end as u64;
             [0, end / 2, end - 1, end, u64::MAX]
         });
@@ -131,7 +131,7 @@ impl Cases<'_> {
     fn wrong_new_bytes(&mut self) {
         for (code, p) in (1..=3).flat_map(|code| [3, 7].map(|p| (code, p))) {
             for cell in SMALL_CELLS.into_iter().chain(LARGE_CELLS) {
-                let shape = Shape { code, p, cell };
+                let shape = Shape::new(code, p, cell);
                 let (data, parity) = (self.position(shape, false), self.position(shape, true));
                 let another = self.random.one_of(&SMALL_CELLS);
                 let near = [0, cell - 1, cell + 1, another, 2 * cell, 4096];
@@ -150,8 +150,8 @@ impl Cases<'_> {
     /// a cell of the stripe by its number alone.
     fn far_positions(&mut self) {
         for (code, p) in codes() {
-            let shape = Shape { code, p, cell: 1 };
-            let rows = self.second.layout(code, p).expect("a good shape").rows as u64;
+            let shape = Shape::new(code, p, 1);
+            let rows = self.full(code, p).rows as u64;
             let position = self.position(shape, false);
             let call = self.write(shape, position);
             let mut push =

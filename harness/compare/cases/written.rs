@@ -68,6 +68,17 @@ const P7_JUNK: [u8; 24] = {
     stripe
 };
 
+/// An encoded stripe of RDP for p = 5 with two data columns, with junk in its parity and
+/// with its data columns lost, and with its row parity column altered.
+const SHORT: [u8; 16] =
+    [0x01, 0x02, 0x04, 0x08, 0x10, 0x20, 0x40, 0x80, 0x11, 0x22, 0x44, 0x88, 0x23, 0x56, 0xAC, 0x48];
+const SHORT_JUNK: [u8; 16] =
+    [0x01, 0x02, 0x04, 0x08, 0x10, 0x20, 0x40, 0x80, 0xEE, 0xEE, 0xEE, 0xEE, 0xEE, 0xEE, 0xEE, 0xEE];
+const SHORT_LOST: [u8; 16] =
+    [0xEE, 0xEE, 0xEE, 0xEE, 0xEE, 0xEE, 0xEE, 0xEE, 0x11, 0x22, 0x44, 0x88, 0x23, 0x56, 0xAC, 0x48];
+const SHORT_ALTERED: [u8; 16] =
+    [0x01, 0x02, 0x04, 0x08, 0x10, 0x20, 0x40, 0x80, 0x12, 0x22, 0x44, 0x98, 0x23, 0x56, 0xAC, 0x48];
+
 /// A spare for p = 5 with junk in it, and columns 0, 1 and 5 of that stripe.
 const SPARE: [u8; 4] = [0xEE; 4];
 const COLUMN_0: [u8; 4] = [0x01, 0x02, 0x04, 0x08];
@@ -120,6 +131,33 @@ pub static WRITTEN: &[Written] = &[
     refused_plan(1, 16),
     refused_plan(5, 7),
     JOB_EXAMPLE,
+    // A shelf with fewer disks, for p = 5 with two data columns.
+    short(Written { after: &SHORT, ..still(ENCODE, 1, 5, &SHORT_JUNK, Answer::refused(0)) }),
+    short(still(BROKEN, 1, 5, &SHORT, Answer::counted(0))),
+    short(still(BROKEN, 1, 5, &SHORT_ALTERED, Answer::counted(3))),
+    short(still(BAD_COLUMN, 1, 5, &SHORT, Answer::found(CLEAN, 0))),
+    short(still(BAD_COLUMN, 1, 5, &SHORT_ALTERED, Answer::found(COLUMN, 2))),
+    short(lost_of(1, 5, &SHORT_LOST, &[0, 1, 2, 3, 4, 5, 6, 7], 0, &SHORT)),
+    short(lost_of(1, 5, &SHORT, &[0, 1, 2, 3, 4, 5, 6, 7, 8], 11, &SHORT)),
+    short(lost_of(1, 5, &SHORT, &[16], 6, &SHORT)),
+    short(planned(0, 3, 8)),
+    short(planned(1, 3, 7)),
+    short(planned(2, 6, 7)),
+    short(planned(3, 15, 10)),
+    short(refused_column(4)),
+    // An m of all data columns, and one that isn't given; and the first refusal that comes.
+    told(1, 4, lost_of(1, 5, &P7_JUNK, &P7_DETERMINED, 0, &RDP_5)),
+    told(0, u64::MAX, lost_of(1, 5, &P7_JUNK, &P7_DETERMINED, 0, &RDP_5)),
+    told(1, 0, still(ENCODE, 1, 5, &RDP_5, Answer::refused(14))),
+    told(1, 5, still(ENCODE, 1, 5, &RDP_5, Answer::refused(14))),
+    told(u64::MAX, u64::MAX, still(ENCODE, 1, 5, &RDP_5, Answer::refused(14))),
+    told(1, 2, still(ENCODE, 2, 3, &P2, Answer::refused(14))),
+    told(1, 2, still(ENCODE, 3, 3, &P3, Answer::refused(14))),
+    told(1, 2, still(PLAN, 2, 3, &[], Answer::refused(14))),
+    told(0, 2, still(PLAN, 2, 3, &[], Answer::refused(3))),
+    told(1, 0, refused(ENCODE, 9, 1, 2)),
+    told(1, 0, refused(ENCODE, 3, 0, 14)),
+    told(1, 2, refused(ENCODE, 3, 0, 4)),
     refused(ENCODE, 9, 1, 2),
     refused(ENCODE, 2, 1, 2),
     refused(ENCODE, 33, 1, 2),
@@ -153,7 +191,7 @@ pub static WRITTEN: &[Written] = &[
 
 /// A call with cells of one byte that leaves the stripe as it is.
 const fn still(operation: Operation, code: u64, p: u64, stripe: &'static [u8], answer: Answer) -> Written {
-    let call = Call::new(operation, Shape { code, p, cell: 1 }, stripe.len() as u64);
+    let call = Call::new(operation, Shape::new(code, p, 1), stripe.len() as u64);
     Written {
         call,
         before: stripe,
@@ -180,7 +218,7 @@ const fn found(code: u64, stripe: &'static [u8], finding: u64, column: u64) -> W
 
 const fn refused(operation: Operation, p: u64, cell: u64, refusal: u64) -> Written {
     let written = still(operation, 1, 3, &P1, Answer::refused(refusal));
-    Written { call: Call { shape: Shape { code: 1, p, cell }, ..written.call }, ..written }
+    Written { call: Call { shape: Shape::new(1, p, cell), ..written.call }, ..written }
 }
 
 /// A small write into P1.
@@ -216,6 +254,20 @@ const fn columns_of(before: &'static [u8], columns: [u64; 2], refusal: u64, afte
 const fn planned(k: u64, rows: u64, reads: u64) -> Written {
     let written = still(PLAN, 1, 5, &[], Answer::planned(rows, reads));
     Written { call: Call { k, ..written.call }, ..written }
+}
+
+const fn refused_column(k: u64) -> Written {
+    Written { answer: Answer::refused(6), ..planned(k, 0, 0) }
+}
+
+/// With an m told so.
+const fn told(data_given: u64, data: u64, written: Written) -> Written {
+    let shape = Shape { data_given, data, ..written.call.shape };
+    Written { call: Call { shape, ..written.call }, ..written }
+}
+
+const fn short(written: Written) -> Written {
+    told(1, 2, written)
 }
 
 /// A run from row 0 for column k of RDP for p = 5.

@@ -6,11 +6,30 @@ use std::fmt;
 #[derive(Clone, Copy, PartialEq, Eq, Debug)]
 pub struct Operation(pub u64);
 
+/// A number m of data columns is given where `data_given` is not 0, and then it is `data`.
 #[derive(Clone, Copy, PartialEq, Debug)]
 pub struct Shape {
     pub code: u64,
     pub p: u64,
     pub cell: u64,
+    pub data_given: u64,
+    pub data: u64,
+}
+
+impl Shape {
+    /// Without m.
+    pub const fn new(code: u64, p: u64, cell: u64) -> Shape {
+        Shape { code, p, cell, data_given: 0, data: 0 }
+    }
+
+    /// Of RDP, with m.
+    pub const fn short(p: u64, cell: u64, m: u64) -> Shape {
+        Shape { data_given: 1, data: m, ..Shape::new(1, p, cell) }
+    }
+
+    pub fn m(&self) -> Option<u64> {
+        (self.data_given != 0).then_some(self.data)
+    }
 }
 
 /// What a call is told beside the bytes. Row and column are for a small write and a
@@ -54,12 +73,14 @@ impl Call {
     }
 
     /// The numbers that are told, lengths aside, in the order of the bridge's request.
-    pub fn numbers(&self) -> [(&'static str, u64); 12] {
-        let Call { shape: Shape { code, p, cell }, columns: [a, b], .. } = *self;
+    pub fn numbers(&self) -> [(&'static str, u64); 14] {
+        let Call { shape: Shape { code, p, cell, data_given, data }, columns: [a, b], .. } = *self;
         [
             ("code", code),
             ("p", p),
             ("cell", cell),
+            ("data_given", data_given),
+            ("data", data),
             ("row", self.row),
             ("column", self.column),
             ("a", a),

@@ -46,7 +46,7 @@ fn read(bytes: &[u8]) -> Option<Job> {
         return None;
     }
     let cell = cell.map_or(512, number);
-    let shape = Shape { code: code[0] as u64, p: p[0] as u64, cell };
+    let shape = Shape::new(code[0] as u64, p[0] as u64, cell);
     Some(Job { shape, lost: lost.chunks(2).map(number).collect(), stripe: stripe.to_vec() })
 }
 

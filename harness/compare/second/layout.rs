@@ -63,11 +63,6 @@ impl Layout {
         self.number(position) * cell
     }
 
-    /// The numbers of the cells of two columns, which may be one.
-    pub fn in_columns(&self, a: usize, b: usize) -> Vec<usize> {
-        (0..self.cells()).filter(|n| [a, b].contains(&(n / self.rows))).collect()
-    }
-
     pub fn xor(&self, sources: &[Position], cell: usize, stripe: &[u8]) -> Vec<u8> {
         let mut sum = vec![0; cell];
         for &source in sources {

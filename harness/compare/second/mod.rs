@@ -9,5 +9,6 @@ pub mod layout;
 pub mod lost;
 pub mod rebuild;
 pub mod shapes;
+pub mod shelf;
 pub mod spare;
 pub mod write;

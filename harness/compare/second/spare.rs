@@ -3,72 +3,75 @@
 use crate::second::call::{Answer, Call, Lent, Operation, IN_SPARE, IN_STRIPE};
 use crate::second::layout::{Equation, Layout, Position};
 use crate::second::shapes::{answered, refuse_if, stripe_length, Second};
+use crate::second::shelf::Shelf;
 use std::collections::BTreeSet;
 
 pub const PLAN: Operation = Operation(7);
 pub const RUN: Operation = Operation(8);
 pub const SHOW: Operation = Operation(9);
 
-pub fn plan_granted<'a>(second: &'a Second, call: &Call, _: &[u64]) -> Result<&'a Layout, u64> {
-    let layout = second.rdp(call)?;
-    refuse_if(call.k > call.shape.p, 6)?;
-    Ok(layout)
+pub fn plan_granted<'a>(second: &'a Second, call: &Call, _: &[u64]) -> Result<&'a Shelf, u64> {
+    let shelf = second.rdp(call)?;
+    refuse_if(call.k >= shelf.columns as u64, 6)?;
+    Ok(shelf)
 }
 
 /// With the stripe and the spare, each of the right length.
-fn both_lent<'a>(second: &'a Second, call: &Call) -> Result<&'a Layout, u64> {
-    let layout = second.rdp(call)?;
-    stripe_length(layout, call)?;
-    refuse_if(call.spare_length != layout.rows as u64 * call.shape.cell, 5)?;
-    Ok(layout)
+fn both_lent<'a>(second: &'a Second, call: &Call) -> Result<&'a Shelf, u64> {
+    let shelf = second.rdp(call)?;
+    stripe_length(shelf, call)?;
+    refuse_if(call.spare_length != shelf.rows as u64 * call.shape.cell, 5)?;
+    Ok(shelf)
 }
 
-pub fn run_granted<'a>(second: &'a Second, call: &Call, _: &[u64]) -> Result<&'a Layout, u64> {
-    let layout = both_lent(second, call)?;
-    refuse_if(call.k > call.shape.p || call.first > layout.rows as u64, 6)?;
-    refuse_if(!layout.accepts(call.k as usize, call.plan), 9)?;
-    Ok(layout)
+pub fn run_granted<'a>(second: &'a Second, call: &Call, _: &[u64]) -> Result<&'a Shelf, u64> {
+    let shelf = both_lent(second, call)?;
+    refuse_if(call.k >= shelf.columns as u64 || call.first > shelf.rows as u64, 6)?;
+    refuse_if(!shelf.accepts(call.k as usize, call.plan), 9)?;
+    Ok(shelf)
 }
 
-pub fn show_granted<'a>(second: &'a Second, call: &Call, _: &[u64]) -> Result<&'a Layout, u64> {
-    let layout = both_lent(second, call)?;
-    let (rows, columns) = (layout.rows as u64, layout.columns as u64);
+pub fn show_granted<'a>(second: &'a Second, call: &Call, _: &[u64]) -> Result<&'a Shelf, u64> {
+    let shelf = both_lent(second, call)?;
+    let (rows, columns) = (shelf.rows as u64, shelf.columns as u64);
     let outside = call.k >= columns || call.done > rows || call.row >= rows || call.column >= columns;
     refuse_if(outside, 6)?;
     refuse_if(call.column == call.k && call.row >= call.done, 10)?;
-    Ok(layout)
+    Ok(shelf)
 }
 
 pub fn plan(second: &Second, call: &Call, _: &mut Lent) -> Result<Answer, String> {
-    answered(plan_granted(second, call, &[]), |layout| {
+    answered(plan_granted(second, call, &[]), |shelf| {
         let k = call.k as usize;
-        let plan = layout.rule(k);
-        if !layout.accepts(k, plan) {
+        let plan = shelf.rule(k);
+        if !shelf.accepts(k, plan) {
             return Err(format!("the rule's plan {plan} for column {k} is not accepted"));
         }
-        Ok(Answer::planned(plan, layout.reads(k, plan)?.len() as u64))
+        Ok(Answer::planned(plan, shelf.reads(k, plan)?.len() as u64))
     })
 }
 
 pub fn run(second: &Second, call: &Call, lent: &mut Lent) -> Result<Answer, String> {
-    answered(run_granted(second, call, &[]), |layout| {
-        let (cell, k, first) = (call.shape.cell as usize, call.k as usize, call.first as usize);
-        let left = (layout.rows - first) as u64;
+    answered(run_granted(second, call, &[]), |shelf| {
+        let (cell, first) = (call.shape.cell as usize, call.first as usize);
+        let (k, left) = (shelf.there[call.k as usize], (shelf.rows - first) as u64);
         let count = if call.budget < left { call.budget } else { left };
-        for row in first..first + count as usize {
-            let bytes = layout.xor(&layout.others(k, call.plan, row)?, cell, &lent.stripe);
-            lent.spare[row * cell..(row + 1) * cell].copy_from_slice(&bytes);
-        }
-        Ok(Answer::counted(count))
+        shelf.widened(cell, &mut lent.stripe, |whole, stripe| {
+            for row in first..first + count as usize {
+                let bytes = whole.xor(&whole.others(k, call.plan, row)?, cell, stripe);
+                lent.spare[row * cell..(row + 1) * cell].copy_from_slice(&bytes);
+            }
+            Ok(Answer::counted(count))
+        })
     })
 }
 
 pub fn show(second: &Second, call: &Call, _: &mut Lent) -> Result<Answer, String> {
-    answered(show_granted(second, call, &[]), |layout| {
+    answered(show_granted(second, call, &[]), |shelf| {
         let position = (call.row as usize, call.column as usize);
         let cell = call.shape.cell;
         Ok(if call.column != call.k {
-            Answer::part(IN_STRIPE, layout.start(position, cell as usize) as u64, cell)
+            Answer::part(IN_STRIPE, shelf.start(position, cell as usize) as u64, cell)
         } else {
             Answer::part(IN_SPARE, call.row * cell, cell)
         })

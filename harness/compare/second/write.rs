@@ -3,26 +3,26 @@
 use crate::second::call::{Answer, Call, Lent, Operation};
 use crate::second::layout::{Layout, Position};
 use crate::second::shapes::{answered, refuse_if, Second};
+use crate::second::shelf::Shelf;
 
 pub const WRITE: Operation = Operation(3);
 
-pub fn granted<'a>(second: &'a Second, call: &Call, _: &[u64]) -> Result<&'a Layout, u64> {
-    let layout = second.stripe(call)?;
-    refuse_if(call.row >= layout.rows as u64 || call.column >= layout.columns as u64, 6)?;
-    refuse_if(layout.is_parity(position(call)), 7)?;
+pub fn granted<'a>(second: &'a Second, call: &Call, _: &[u64]) -> Result<&'a Shelf, u64> {
+    let shelf = second.stripe(call)?;
+    refuse_if(call.row >= shelf.rows as u64 || call.column >= shelf.columns as u64, 6)?;
+    refuse_if(shelf.is_parity((call.row as usize, call.column as usize)), 7)?;
     refuse_if(call.bytes_length != call.shape.cell, 8)?;
-    Ok(layout)
+    Ok(shelf)
 }
 
 pub fn write(second: &Second, call: &Call, lent: &mut Lent) -> Result<Answer, String> {
-    answered(granted(second, call, &[]), |layout| {
-        layout.write(position(call), &lent.bytes, &mut lent.stripe);
-        Ok(Answer::counted(layout.dependents(position(call))))
+    answered(granted(second, call, &[]), |shelf| {
+        let position = (call.row as usize, shelf.there[call.column as usize]);
+        shelf.widened(lent.bytes.len(), &mut lent.stripe, |whole, stripe| {
+            whole.write(position, &lent.bytes, stripe);
+            Ok(Answer::counted(whole.dependents(position)))
+        })
     })
-}
-
-fn position(call: &Call) -> Position {
-    (call.row as usize, call.column as usize)
 }
 
 impl Layout {
