@@ -22,6 +22,12 @@ use Rattle.zijraduf.specs.declared.Part.{Part}
 abbrev pub shapeFrom : ShapeNumbers → Shape
 shapeFrom n = record { code = n .code; p = n .p; cell = n .cell; width = cond (eqb (n .given) 0) Full (Data (n .m)) }
 
+-- what is promised of the shape that the numbers describe
+pub record Told (numbers : ShapeNumbers) (P : Shape → Type 0) : Type 0 where
+  pub shape : Shape
+  pub is : shape ≡ shapeFrom numbers
+  pub so : P shape
+
 -- an exported function gives the numbers of an answer that the Rattle call may give
 pub record InNumbers {A B : Type 0} (numbers : A → B) (Allowed : A → Type 0) (answer : B) : Type 0 where
   pub given : A

@@ -10,7 +10,7 @@ ghost use Rattle.spare.specs.Run.{RunsByPlan};
 ghost use Rattle.show.specs.Show.{Shown};
 ghost use Rattle.jobs.specs.Answer.{AnswersInto};
 ghost use Rattle.rebuild.specs.Rebuild.{RebuildsCells, RebuildsColumns};
-ghost use Rattle.zijraduf.specs.Export.{shapeFrom, InNumbers, countInNumbers, foundInNumbers, planInNumbers, shownInNumbers};
+ghost use Rattle.zijraduf.specs.Export.{shapeFrom, Told, InNumbers, countInNumbers, foundInNumbers, planInNumbers, shownInNumbers};
 use bad::BadColumn;
 use codes::Counted;
 use codes::Shape;
@@ -96,7 +96,7 @@ fn in_numbers(answer: Counted) -> Count
 // Encode.
 #[no_mangle]
 pub extern "C" fn zijraduf_encode(shape: ShapeNumbers, stripe: &mut [u8]) -> usize
-    ensures { λ r. ⌜ Encodes (shapeFrom shape) (now (stripe .entry)) r (now (stripe .exit)) ⌝ }
+    ensures { λ r. ⌜ Told shape (λ s. Encodes s (now (stripe .entry)) r (now (stripe .exit))) ⌝ }
 {
     stripe::encode(shape_from(shape), stripe)
 }
@@ -104,7 +104,7 @@ pub extern "C" fn zijraduf_encode(shape: ShapeNumbers, stripe: &mut [u8]) -> usi
 // Broken.
 #[no_mangle]
 pub extern "C" fn zijraduf_broken(shape: ShapeNumbers, stripe: &[u8]) -> Count
-    ensures { λ r. ⌜ InNumbers countInNumbers (Counts (shapeFrom shape) (now (stripe .entry))) r ⌝ }
+    ensures { λ r. ⌜ Told shape (λ s. InNumbers countInNumbers (Counts s (now (stripe .entry))) r) ⌝ }
 {
     in_numbers(stripe::broken(shape_from(shape), stripe))
 }
@@ -118,7 +118,7 @@ pub extern "C" fn zijraduf_write(
     column: usize,
     bytes: &[u8],
 ) -> Count
-    ensures { λ r. ⌜ InNumbers countInNumbers (Writes (shapeFrom shape) row column (now (bytes .entry)) (now (stripe .entry)) (now (stripe .exit))) r ⌝ }
+    ensures { λ r. ⌜ Told shape (λ s. InNumbers countInNumbers (Writes s row column (now (bytes .entry)) (now (stripe .entry)) (now (stripe .exit))) r) ⌝ }
 {
     in_numbers(stripe::write(shape_from(shape), stripe, row, column, bytes))
 }
@@ -126,7 +126,7 @@ pub extern "C" fn zijraduf_write(
 // Rebuild cells.
 #[no_mangle]
 pub extern "C" fn zijraduf_rebuild_cells(shape: ShapeNumbers, stripe: &mut [u8], lost: &[usize]) -> usize
-    ensures { λ r. ⌜ RebuildsCells (shapeFrom shape) (now (lost .entry)) (now (stripe .entry)) r (now (stripe .exit)) ⌝ }
+    ensures { λ r. ⌜ Told shape (λ s. RebuildsCells s (now (lost .entry)) (now (stripe .entry)) r (now (stripe .exit))) ⌝ }
 {
     rebuild::cells(shape_from(shape), stripe, lost)
 }
@@ -139,7 +139,7 @@ pub extern "C" fn zijraduf_rebuild_columns(
     a: usize,
     b: usize,
 ) -> usize
-    ensures { λ r. ⌜ RebuildsColumns (shapeFrom shape) a b (now (stripe .entry)) r (now (stripe .exit)) ⌝ }
+    ensures { λ r. ⌜ Told shape (λ s. RebuildsColumns s a b (now (stripe .entry)) r (now (stripe .exit))) ⌝ }
 {
     rebuild::columns(shape_from(shape), stripe, a, b)
 }
@@ -147,7 +147,7 @@ pub extern "C" fn zijraduf_rebuild_columns(
 // Bad column.
 #[no_mangle]
 pub extern "C" fn zijraduf_bad_column(shape: ShapeNumbers, stripe: &[u8]) -> Found
-    ensures { λ r. ⌜ InNumbers foundInNumbers (Finds (shapeFrom shape) (now (stripe .entry))) r ⌝ }
+    ensures { λ r. ⌜ Told shape (λ s. InNumbers foundInNumbers (Finds s (now (stripe .entry))) r) ⌝ }
 {
     match bad::bad_column(shape_from(shape), stripe) {
         BadColumn::Clean => Found {
@@ -176,7 +176,7 @@ pub extern "C" fn zijraduf_bad_column(shape: ShapeNumbers, stripe: &[u8]) -> Fou
 // Plan.
 #[no_mangle]
 pub extern "C" fn zijraduf_plan(shape: ShapeNumbers, k: usize) -> Planned
-    ensures { λ r. ⌜ InNumbers planInNumbers (Plans (shapeFrom shape) k) r ⌝ }
+    ensures { λ r. ⌜ Told shape (λ s. InNumbers planInNumbers (Plans s k) r) ⌝ }
 {
     match spare::plan(shape_from(shape), k) {
         PlanAnswer::Plan(plan) => Planned {
@@ -203,8 +203,8 @@ pub extern "C" fn zijraduf_run(
     first: usize,
     budget: usize,
 ) -> Count
-    ensures { λ r. ⌜ InNumbers countInNumbers (RunsByPlan (shapeFrom shape) k plan first budget (now (stripe .entry)) (now (spare .entry))
-        (now (spare .exit))) r ⌝ }
+    ensures { λ r. ⌜ Told shape (λ s. InNumbers countInNumbers (RunsByPlan s k plan first budget (now (stripe .entry)) (now (spare .entry))
+        (now (spare .exit))) r) ⌝ }
 {
     in_numbers(spare::run(shape_from(shape), stripe, k, plan, spare, first, budget))
 }
@@ -220,11 +220,12 @@ pub extern "C" fn zijraduf_show(
     row: usize,
     column: usize,
 ) -> Part
-    ensures { λ r. ⌜ InNumbers (shownInNumbers (shapeFrom shape)) (Shown (shapeFrom shape) (length (now (stripe .entry)))
-        (length (now (spare .entry))) k done row column) r ⌝ }
+    ensures { λ r. ⌜ Told shape (λ s. InNumbers (shownInNumbers s) (Shown s (length (now (stripe .entry)))
+        (length (now (spare .entry))) k done row column) r) ⌝ }
 {
-    let length = shape.cell;
-    match show::shown_at(shape_from(shape), stripe.len(), spare.len(), k, done, row, column) {
+    let told = shape_from(shape);
+    let length = told.cell;
+    match show::shown_at(told, stripe.len(), spare.len(), k, done, row, column) {
         ShownAt::Stripe(offset) => Part {
             refusal: 0,
             buffer: 1,
