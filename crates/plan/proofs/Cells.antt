@@ -13,9 +13,11 @@ use Rattle.bits.proofs.Bits.{bit-above}
 use Rattle.codes.specs.declared.Shape.{Shape}
 use Rattle.codes.specs.Shape.{rows, columns, cellNumber, WellFormed}
 use Rattle.codes.specs.Equations.{Equation, equation, rdpRow, rdpDiagonal}
+use Rattle.codes.specs.Geometry.{isThere}
 use Rattle.codes.specs.Holders.{holds}
 use Rattle.codes.proofs.Shapes.{low}
 use Rattle.codes.proofs.Lines.{rdp-rows, rdp-columns, rdp-row-is}
+use Rattle.codes.proofs.Geometry.{cell-there-at}
 use Rattle.codes.proofs.Positions.{same-row, same-column, parity-of, sums-of, rdp-second-is}
 use Rattle.plan.specs.Plan.{diagonal, chosen, readsCell, isAccepted}
 use Rattle.plan.specs.Right.{RdpColumn}
@@ -168,10 +170,14 @@ module _ (s : Shape) (k plan : ℕ) (of : RdpColumn s k) (accepted : isAccepted 
             (λ e. clash t (ap (λ (x : ℕ). bit x plan) e ∙ bit-above (rows s) plan (plan-low s k plan of accepted)))
             (λ n. let small : home s k (diagonal s j r) < s .p = mod-lt (diagonal s j r + (s .p - k)) (omega (arith, low s (of .formed))) in omega (arith, last-row s k of))
 
-    -- a plan reads the cells that pass the test
-    pub reads-is : readsCell s k plan (cellNumber s r j) ≡ isRead s k plan r j
+    -- a plan reads the cells that exist and pass the test
+    pub reads-is : readsCell s k plan (cellNumber s r j) ≡ (isThere s j && isRead s k plan r j)
     unfolding readsCell takes
     reads-is =
-        same-test
+        ap₂ _&&_ (cell-there-at s (of .formed) r j lr)
+        (same-test
         (λ h. let found = any-some (rows s) takes h in read-of (found .0) (found .1) (found .2))
-        (λ h. let found = read-by h in any-at (rows s) takes (found .0) (found .1) (found .2))
+        (λ h. let found = read-by h in any-at (rows s) takes (found .0) (found .1) (found .2)))
+
+    pub reads-there : isThere s j ≡ true → readsCell s k plan (cellNumber s r j) ≡ isRead s k plan r j
+    reads-there h = reads-is ∙ ap (λ (b : Bool). b && isRead s k plan r j) h

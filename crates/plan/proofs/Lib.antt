@@ -6,6 +6,8 @@ pub mod Accepted
 pub mod Rule
 pub mod Cells
 pub mod Counting
+pub mod Turned
+pub mod ByColumns
 pub mod PlanReads
 pub mod PlanFacts
 pub mod Planning

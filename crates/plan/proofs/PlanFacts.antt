@@ -15,7 +15,8 @@ use Rattle.xor.proofs.Sets.{count-same, count-lowest}
 use Rattle.bits.specs.Bit.{bit}
 use Rattle.bits.proofs.Bits.{bit-ones, same-bits, ones-bits}
 use Rattle.codes.specs.declared.Shape.{Shape}
-use Rattle.codes.specs.Shape.{rows, cells, cellNumber, WellFormed}
+use Rattle.codes.specs.Shape.{rows, cells, cellNumber, missing, WellFormed}
+use Rattle.codes.specs.Geometry.{gap}
 use Rattle.codes.proofs.Shapes.{each-prime, low, rows-low}
 use Rattle.codes.proofs.Positions.{cell-is}
 use Rattle.plan.specs.Plan.{readsCell, cellsRead, byRule, ByRule, isAccepted}
@@ -24,7 +25,7 @@ use Rattle.plan.proofs.Column.{last-row, last-column}
 use Rattle.plan.proofs.Accepted.{plan-low}
 use Rattle.plan.proofs.Rule.{others-below}
 use Rattle.plan.proofs.Cells.{reads-is}
-use Rattle.plan.proofs.PlanReads.{all-rows, last-column-reads, plan-reads}
+use Rattle.plan.proofs.PlanReads.{all-rows, last-column-reads, last-column-full, plan-reads}
 
 -- the count of ones of a plan is the number of rows that it takes by diagonal
 pub ones-are-rows : (s : Shape) (plan : ℕ) → plan < 2 ^ rows s → ones plan ≡ count (rows s) (λ i. bit i plan)
@@ -45,15 +46,15 @@ quarter h = let half : 2 * h - h ≡ h = omega arith in rw half (omega arith)
 even-rows : (s : Shape) → WellFormed s → s .p - 1 ≡ 2 * ((s .p - 1) / 2)
 even-rows s w = each-prime (λ p. p - 1 ≡ 2 * ((p - 1) / 2)) refl refl refl refl refl refl refl refl refl refl (s .p) (w .prime)
 
--- no accepted plan reads fewer than three quarters of (p-1)²
-pub reads-least : (s : Shape) (k plan : ℕ) → RdpColumn s k → isAccepted s k plan ≡ true → 3 * ((s .p - 1) * (s .p - 1)) / 4 ≤ cellsRead s k plan
-reads-least s k plan c accepted =
+-- where every column exists, no accepted plan reads fewer than three quarters of (p-1)²
+pub reads-least : (s : Shape) (k plan : ℕ) → missing s ≡ 0 → RdpColumn s k → isAccepted s k plan ≡ true → 3 * ((s .p - 1) * (s .p - 1)) / 4 ≤ cellsRead s k plan
+reads-least s k plan full c accepted =
     let n = s .p - 1 in
     let x = ones plan in
     let most : x ≤ n = omega (arith, last-row s k c, ones-le (rows s) plan (plan-low s k plan c accepted)) in
     let whole : x + (n - x) ≡ n = omega arith in
     let product : 4 * (x * (n - x)) ≤ n * n = rw whole at (four x (n - x)) in
-    omega (arith, plan-reads s k plan c accepted)
+    omega (arith, plan-reads s k plan c accepted full)
 
 module _ (s : Shape) (k plan : ℕ) (c : RdpColumn s k) (rule : ByRule s k plan) where
   -- a plan by the rule is accepted
@@ -98,10 +99,10 @@ module _ (s : Shape) (k plan : ℕ) (c : RdpColumn s k) (rule : ByRule s k plan)
             let all-but = others-below k (s .p - 1) f (rows s) (omega arith) in
             by-less f (rows s) (λ l. omega (arith, rw (lt-ltb f (rows s) l) at all-but)) (λ l. omega (arith, rw (le-ltb f (rows s) l) at all-but))
 
-    -- it reads three quarters of (p-1)²
-    pub rule-reads : cellsRead s k plan ≡ 3 * ((s .p - 1) * (s .p - 1)) / 4
-    rule-reads =
-        plan-reads s k plan c rule-accepted
+    -- where every column exists it reads three quarters of (p-1)²
+    pub rule-reads : missing s ≡ 0 → cellsRead s k plan ≡ 3 * ((s .p - 1) * (s .p - 1)) / 4
+    rule-reads full =
+        plan-reads s k plan c rule-accepted full
         ∙ ap (λ (x : ℕ). (s .p - 1) * (s .p - 1) - x * (s .p - 1 - x)) rule-ones
         ∙ subst (λ (n : ℕ). n * n - (s .p - 1) / 2 * (n - (s .p - 1) / 2) ≡ 3 * (n * n) / 4) (sym (even-rows s (c .formed))) (quarter ((s .p - 1) / 2))
 
@@ -110,20 +111,24 @@ module _ (s : Shape) (k plan : ℕ) (c : RdpColumn s k) (rule : ByRule s k plan)
     pub rule-ones-last : ones plan ≡ s .p - 1
     rule-ones-last = all-rows s k plan c rule-accepted last
 
-    -- it reads (p-1)² cells
-    pub rule-reads-last : cellsRead s k plan ≡ (s .p - 1) * (s .p - 1)
-    rule-reads-last = last-column-reads s k plan c rule-accepted last
+    -- of m data columns and the row parity column it reads (m+1)(p-1) - m cells: all but those on the missing diagonal
+    pub rule-reads-few : cellsRead s k plan ≡ (gap s + 1) * (s .p - 1) - gap s
+    rule-reads-few = last-column-reads s k plan c rule-accepted last
 
-  -- no accepted plan reads fewer
-  pub rule-least : (other : ℕ) → isAccepted s k other ≡ true → cellsRead s k plan ≤ cellsRead s k other
-  rule-least other accepted =
+    -- that is (p-1)² where every column exists
+    pub rule-reads-last : missing s ≡ 0 → cellsRead s k plan ≡ (s .p - 1) * (s .p - 1)
+    rule-reads-last = last-column-full s k plan c rule-accepted last
+
+  -- where every column exists no accepted plan reads fewer
+  pub rule-least : missing s ≡ 0 → (other : ℕ) → isAccepted s k other ≡ true → cellsRead s k plan ≤ cellsRead s k other
+  rule-least full other accepted =
       by-equal k (s .p)
-      (λ e. omega (arith, rule-reads-last e, last-column-reads s k other c accepted e))
-      (λ n. omega (arith, rule-reads (omega (arith, last-column s k c)), reads-least s k other c accepted))
+      (λ e. omega (arith, rule-reads-last e full, last-column-full s k other c accepted e full))
+      (λ n. omega (arith, rule-reads (omega (arith, last-column s k c)) full, reads-least s k other full c accepted))
 
 -- an accepted plan reads no cell of the lost column
 pub lost-not-read : (s : Shape) (k plan : ℕ) → RdpColumn s k → isAccepted s k plan ≡ true → (c : ℕ) → c < cells s → c / rows s ≡ k → readsCell s k plan c ≡ false
 lost-not-read s k plan of accepted c lc e =
     ap (readsCell s k plan) (sym (cell-is s (of .formed) c) ∙ ap (cellNumber s (c % rows s)) e)
     ∙ reads-is s k plan of accepted (c % rows s) k (mod-lt c (omega (arith, rows-low s (of .formed)))) (of .column)
-    ∙ rw (eq-eqb k k refl) refl
+    ∙ rw (of .there, eq-eqb k k refl) refl

@@ -1,8 +1,7 @@
 -- What plan answers meets its contract, and any two answers that the contract allows are equal.
 use mathlib.Core.Path.{_≡_, refl, sym, ap, _∙_, subst}
 use mathlib.Core.Logic.{_≢_}
-use Prim.Native.Nat.{ℕ, _-_, _*_}
-use lib.Count.{ones}
+use Prim.Native.Nat.{ℕ}
 use Rattle.bits.proofs.Bits.{same-bits}
 use Rattle.codes.specs.declared.Shape.{Shape}
 use Rattle.codes.specs.Shape.{rows}
@@ -14,26 +13,21 @@ use Rattle.plan.specs.declared.PlanAnswer.the-variants.{Plan, Refused}
 use Rattle.plan.specs.Plan.{cellsRead, ByRule}
 use Rattle.plan.specs.Refusals.{planFaults}
 use Rattle.plan.specs.Plans.{Plans}
-use Rattle.plan.proofs.Column.{lying}
-use Rattle.plan.proofs.Refused.{plan-accepted}
-use Rattle.plan.proofs.PlanReads.{plan-reads}
-use Rattle.plan.proofs.PlanFacts.{rule-accepted}
 
 pub plan-refused : (s : Shape) (k n : ℕ) → n ≡ refusal (planFaults s k) → n ≢ 0 → Plans s k (Refused n)
 plan-refused s k n e some = record { number = e; given = λ z. absurd (some z) }
 
 pub plan-given : (s : Shape) (k j taken reads : ℕ) → refusal (planFaults s k) ≡ 0 → j ≡ columnOf s k → ByRule s j taken
-    → reads ≡ (s .p - 1) * (s .p - 1) - ones taken * (s .p - 1 - ones taken) → Plans s k (Plan (record { rows = taken; reads = reads }))
+    → reads ≡ cellsRead s j taken → Plans s k (Plan (record { rows = taken; reads = reads }))
 plan-given s k j taken reads none lies ruled e =
     let rule : ByRule s (columnOf s k) taken = subst (λ (x : ℕ). ByRule s x taken) lies ruled in
-    let of = lying s k (plan-accepted s k none) in
     record {
       number = sym none;
       given = λ z. record {
         plan = record { rows = taken; reads = reads };
         says = refl;
         rule = rule;
-        reads = e ∙ sym (plan-reads s (columnOf s k) taken of (rule-accepted s (columnOf s k) taken of rule));
+        reads = e ∙ ap (λ (x : ℕ). cellsRead s x taken) lies;
       };
     }
 

@@ -1,15 +1,14 @@
 -- The refusals of plan, and of a shape that must be RDP's: which faults come after which, and what holds where there is none.
 use mathlib.Core.Path.{_≡_, refl}
 use mathlib.Core.List.{[], _∷_}
-use Prim.Native.Nat.{ℕ}
+use Prim.Native.Nat.{ℕ, _<_}
 use borrow.Author.Tests.{eqb-true, leb-false, not-false}
 use Rattle.codes.specs.declared.Shape.{Shape}
-use Rattle.codes.specs.Shape.{columns, WellFormed}
+use Rattle.codes.specs.Shape.{disks, WellFormed}
 use Rattle.codes.specs.Refusals.{outside, order, refusal, codeFaults, sizeFaults}
 use Rattle.codes.proofs.Order.{After, after}
 use Rattle.codes.proofs.Refused.{well-formed}
 use Rattle.plan.specs.Refusals.{notRdp, rdpFaults, planFaults}
-use Rattle.plan.specs.Right.{RdpColumn}
 
 -- ---- a shape that must be RDP's
 
@@ -25,13 +24,13 @@ module _ (s : Shape) where
 -- ---- a plan
 
 module _ (s : Shape) (k : ℕ) where
-  pub plan-after : After (rdpFaults s) (outside k (columns s) ∷ []) (planFaults s k)
+  pub plan-after : After (rdpFaults s) (outside k (disks s) ∷ []) (planFaults s k)
   unfolding planFaults order
   plan-after = after (rdpFaults s) _ refl refl
 
   -- a plan that is not refused is for a place where a column of RDP lies
-  pub plan-accepted : refusal (planFaults s k) ≡ 0 → RdpColumn s k
+  pub plan-accepted : refusal (planFaults s k) ≡ 0 → WellFormed s × (s .code ≡ 1) × (k < disks s)
   plan-accepted none =
       let n = plan-after .none none in
       let formed = rdp-accepted s (n .0) in
-      record { formed = formed .0; rdp = formed .1; column = leb-false (columns s) k (n .1 .0) }
+      (formed .0, formed .1, leb-false (disks s) k (n .1 .0))

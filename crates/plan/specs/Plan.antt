@@ -1,4 +1,4 @@
--- A read plan for one lost column of RDP: document 01, "What each call gives".
+-- A read plan for one lost column of RDP: document 01, "What each call gives"; of a shelf with fewer disks document 02, request 01.
 use mathlib.Core.Path.{_≡_}
 use mathlib.Core.Bool.{Bool, cond, not, _&&_, _||_}
 use Prim.Native.Nat.{ℕ, _+_, _-_, _/_, _%_, _^_, _<_}
@@ -7,6 +7,7 @@ use Rattle.xor.specs.Sets.{any, count}
 use Rattle.bits.specs.Bit.{bit}
 use Rattle.codes.specs.declared.Shape.{Shape}
 use Rattle.codes.specs.Shape.{rows, cells, cellNumber}
+use Rattle.codes.specs.Geometry.{cellThere}
 use Rattle.codes.specs.Holders.{holds}
 
 -- the diagonal of the cell in row i of column k: i+k mod p; in the diagonal parity column it is the row's own number
@@ -17,9 +18,13 @@ diagonal s k i = cond (eqb k (s .p)) i ((i + k) % s .p)
 unfoldable pub chosen : Shape → ℕ → ℕ → ℕ → ℕ
 chosen s k plan i = cond (bit i plan) (rows s + diagonal s k i) i
 
--- whether the plan for column k reads cell c: it is another cell of the equation by which some row is taken
+-- whether the plan for column k reads cell c: it exists, and is another cell of the equation by which some row is taken
 unfoldable pub readsCell : Shape → ℕ → ℕ → ℕ → Bool
-readsCell s k plan c = any (rows s) (λ i. holds s (chosen s k plan i) c && not (eqb c (cellNumber s i k)))
+readsCell s k plan c = cellThere s c && any (rows s) (λ i. holds s (chosen s k plan i) c && not (eqb c (cellNumber s i k)))
+
+-- how many cells of column j, as the equations number it, are read
+unfoldable pub columnReads : Shape → ℕ → ℕ → ℕ → ℕ
+columnReads s k plan j = count (rows s) (λ i. readsCell s k plan (cellNumber s i j))
 
 -- the number of distinct cells read
 unfoldable pub cellsRead : Shape → ℕ → ℕ → ℕ

@@ -1,11 +1,9 @@
 // RDP with one lost column: a plan of what to read, and which plans are accepted.
 // Callers number columns as they lie in the stripe; the rule and the equations number them as published.
 ghost use mathlib.Core.Path.{_≡_};
-ghost use Prim.Native.Nat.{_-_, _*_, _^_, _<_};
-ghost use lib.Count.{ones};
-ghost use Rattle.codes.specs.Shape.{WellFormed};
+ghost use mathlib.Core.Bool.{true};
 ghost use Rattle.codes.specs.Refusals.{refusal};
-ghost use Rattle.plan.specs.Plan.{ByRule, isAccepted};
+ghost use Rattle.plan.specs.Plan.{columnReads, cellsRead, ByRule, isAccepted};
 ghost use Rattle.plan.specs.Refusals.{rdpFaults, planFaults};
 ghost use Rattle.plan.specs.Right.{RdpColumn};
 ghost use Rattle.plan.specs.Plans.{Plans};
@@ -51,7 +49,7 @@ fn plan_refusal(shape: Shape, k: usize) -> usize
     if refusal != 0 {
         return refusal;
     }
-    if codes::column_count(shape) <= k {
+    if codes::disk_count(shape) <= k {
         return 6;
     }
     0
@@ -95,19 +93,45 @@ fn rule_rows(shape: Shape, k: usize) -> u64
     bits::one_bit(half) - 1
 }
 
-// How many distinct cells are read where the rows of a mask are taken by diagonal, and the others by row: of (p - 1)² cells each
-// pair of a row of one kind and a row of the other saves one.
-fn reads_by(shape: Shape, rows: u64) -> usize
-    requires { ⌜ WellFormed shape × (rows < 2 ^ (shape .p - 1)) ⌝ }
-    ensures { λ r. ⌜ r ≡ (shape .p - 1) * (shape .p - 1) - ones rows * (shape .p - 1 - ones rows) ⌝ }
+// How many cells of column j are read for column k, by the equations' numbers, where the rows of a set are taken by diagonal and the others
+// by row. Row i of column j lies on the diagonal of that row of column k which is as many rows on, mod p, as j is columns past k; the
+// diagonal parity column lies as column 0 does, and no row holds it.
+fn column_reads(shape: Shape, k: usize, rows: u64, j: usize) -> usize
+    requires { ⌜ RdpColumn shape k × (isAccepted shape k rows ≡ true) × RdpColumn shape j ⌝ }
+    ensures { λ r. ⌜ r ≡ columnReads shape k rows j ⌝ }
 {
-    let n = shape.p - 1;
-    let by_diagonal = u64::count_ones(rows) as usize;
-    n * n - by_diagonal * (n - by_diagonal)
+    if j == k {
+        return 0;
+    }
+    let p = shape.p;
+    let all = bits::one_bit(p - 1) - 1;
+    let twice = rows | (rows << p);
+    if j == p {
+        return u64::count_ones((twice >> (p - k)) & all) as usize;
+    }
+    let by_row = p - 1 - u64::count_ones(rows) as usize;
+    let turn = codes::turned(j, p - k, p);
+    by_row + u64::count_ones((twice >> turn) & rows) as usize
+}
+
+// How many distinct cells are read for column k where the rows of a set are taken by diagonal and the others by row: the sum over the
+// columns that exist.
+fn reads_by(shape: Shape, k: usize, rows: u64) -> usize
+    requires { ⌜ RdpColumn shape k × (isAccepted shape k rows ≡ true) ⌝ }
+    ensures { λ r. ⌜ r ≡ cellsRead shape k rows ⌝ }
+{
+    let n = codes::disk_count(shape);
+    let mut reads = 0;
+    let mut d = 0;
+    while d < n {
+        reads += column_reads(shape, k, rows, codes::column_of(shape, d));
+        d += 1;
+    }
+    reads
 }
 
 // Plan: which rows of the lost column at place k to take by diagonal and which by row, and how many distinct cells are then read.
-// Answers the plan, or refusal 1, 2, 3, 4 or 6.
+// Answers the plan, or refusal 1, 2, 14, 3, 4 or 6.
 pub fn plan(shape: Shape, k: usize) -> PlanAnswer
     ensures { λ r. ⌜ Plans shape k r ⌝ }
 {
@@ -115,7 +139,8 @@ pub fn plan(shape: Shape, k: usize) -> PlanAnswer
     if number != 0 {
         return PlanAnswer::Refused(number);
     }
-    let rows = rule_rows(shape, codes::column_of(shape, k));
-    let reads = reads_by(shape, rows);
+    let column = codes::column_of(shape, k);
+    let rows = rule_rows(shape, column);
+    let reads = reads_by(shape, column, rows);
     PlanAnswer::Plan(ReadPlan { rows, reads })
 }

@@ -11,12 +11,13 @@ use Rattle.codes.specs.declared.Shape.{Shape}
 use Rattle.codes.specs.Shape.{cellNumber}
 use Rattle.codes.specs.Geometry.{columnOf}
 use Rattle.codes.specs.Encoded.{byteAt}
+use Rattle.codes.proofs.Geometry.{byte-there}
 use Rattle.show.specs.declared.ShownAt.{ShownAt}
 use Rattle.show.specs.declared.ShownAt.the-variants.{Stripe, Spare, Refused}
 use Rattle.spare.specs.Run.{spareByte}
 use Rattle.show.specs.Show.{Lent, PartOf, SamePart, reason, shownPlace, Shows, shownNumber, Shown}
 use Rattle.show.proofs.Refused.{show-accepted}
-use Rattle.show.proofs.Showing.{in-stripe, in-spare}
+use Rattle.show.proofs.Showing.{there, in-stripe, in-spare}
 
 -- ---- a part of a buffer
 
@@ -69,8 +70,11 @@ module _ (s : Shape) (k done row column : ℕ) (stripe spare answer : Lent) (h :
   module _ (none : reason s k done row column stripe spare ≡ 0) where
     -- the bytes of a cell of another column are the stripe's
     pub shown-is-cell : column ≢ k → (t : ℕ) → t < s .cell → getD (answer .now) t 0 ≡ byteAt s (stripe .now) (cellNumber s row (columnOf s column)) t
-    unfolding byteAt
-    shown-is-cell n = shown-byte stripe (shownPlace s row column) (s .cell) answer (h .other none n)
+    shown-is-cell n t lt =
+        let right = show-accepted s (length (stripe .now)) (length (spare .now)) k done row column none in
+        let w = right .buffers .of .formed in
+        shown-byte stripe (shownPlace s row column) (s .cell) answer (h .other none n) t lt
+        ∙ sym (byte-there s w (stripe .now) (cellNumber s row (columnOf s column)) t (there s w row column (right .low)))
 
     -- those of a cell of column k are the spare's, of the same row
     pub shown-is-spare : column ≡ k → (t : ℕ) → t < s .cell → getD (answer .now) t 0 ≡ spareByte s (spare .now) row t

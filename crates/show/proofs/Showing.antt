@@ -1,15 +1,16 @@
 -- Laws of show: where the cell is, from the tests; what the answer that says where gives away; and the part that is made of it.
 use mathlib.Core.Path.{_≡_, refl, sym, ap, _∙_}
 use mathlib.Core.Logic.{_≢_}
-use Prim.Native.Nat.{ℕ, _+_, _-_, _*_, _≤_}
+use mathlib.Core.Bool.{true}
+use Prim.Native.Nat.{ℕ, _+_, _-_, _*_, _≤_, _<_}
 use native.Mathlib.Omega.{arith}
 use lib.ListN.{length, take, drop}
 use Rattle.xor.proofs.Cases.{by-equal}
 use Rattle.codes.specs.declared.Shape.{Shape}
-use Rattle.codes.specs.Shape.{cellNumber}
-use Rattle.codes.specs.Geometry.{columnOf, place}
+use Rattle.codes.specs.Shape.{rows, cellNumber, WellFormed}
+use Rattle.codes.specs.Geometry.{cellThere, columnOf, place}
 use Rattle.codes.specs.Refusals.{refusal}
-use Rattle.codes.proofs.Geometry.{column-there, place-inside}
+use Rattle.codes.proofs.Geometry.{column-there, is-there, cell-there-at, place-inside}
 use Rattle.codes.proofs.Positions.{cell-inside}
 use Rattle.codes.proofs.Shapes.{length-high}
 use Rattle.show.specs.declared.ShownAt.{ShownAt}
@@ -21,11 +22,15 @@ use Rattle.show.proofs.Refused.{ShowRight, show-accepted}
 
 -- ---- where a cell ends that is shown
 
+-- a cell that callers name exists
+pub there : (s : Shape) → WellFormed s → (row column : ℕ) → row < rows s → cellThere s (cellNumber s row (columnOf s column)) ≡ true
+there s w row column l = cell-there-at s w row (columnOf s column) l ∙ is-there s w column
+
 module _ (s : Shape) (bytes spare k done row column : ℕ) (r : ShowRight s bytes spare k done row column) where
   pub in-stripe : shownPlace s row column + s .cell ≤ bytes
   in-stripe =
       let formed = r .buffers .of .formed in
-      omega (arith, r .buffers .long, place-inside s formed (cellNumber s row (columnOf s column)) (cell-inside s formed row (columnOf s column) (r .low) (column-there s column (r .right))))
+      omega (arith, r .buffers .long, place-inside s formed (cellNumber s row (columnOf s column)) (cell-inside s formed row (columnOf s column) (r .low) (column-there s formed column (r .right))) (there s formed row column (r .low)))
 
   pub in-spare : row * s .cell + s .cell ≤ spare
   in-spare = row-ends s spare (r .buffers .whole) row (r .low)

@@ -33,7 +33,7 @@ fn show_refusal(
     if codes::row_count(shape) <= row {
         return 6;
     }
-    let columns = codes::column_count(shape);
+    let columns = codes::disk_count(shape);
     if columns <= column {
         return 6;
     }
@@ -98,7 +98,7 @@ pub fn show<'a>(
     }
 }
 
-// Why show gives an empty part: refusal 1, 2, 3, 4, 5, 6 or 10; 0 where it gives the cell.
+// Why show gives an empty part: refusal 1, 2, 14, 3, 4, 5, 6 or 10; 0 where it gives the cell.
 pub fn show_reason(
     shape: Shape,
     stripe: &[u8],

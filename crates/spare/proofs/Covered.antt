@@ -19,10 +19,10 @@ use Rattle.xor.proofs.Sets.{count-same, count-never, count-all, count-parts, co
 use Rattle.codes.specs.declared.Shape.{Shape}
 use Rattle.codes.specs.declared.Counted.the-variants.{Count}
 use Rattle.codes.specs.Shape.{rows, cellNumber, stripeLength, WellFormed}
-use Rattle.codes.specs.Geometry.{columnOf, cellAt, place}
+use Rattle.codes.specs.Geometry.{cellThere, columnOf, cellAt, place}
 use Rattle.codes.specs.Agree.{Agree, inColumns, callersColumns}
 use Rattle.codes.specs.Encoded.{byteAt, Encoded}
-use Rattle.codes.proofs.Geometry.{place-down, place-inside}
+use Rattle.codes.proofs.Geometry.{cell-there-at, byte-there, place-down, place-inside}
 use Rattle.codes.proofs.Positions.{cell-inside}
 use Rattle.codes.proofs.Shapes.{rows-low}
 use Rattle.codes.proofs.Solutions.{total-zero}
@@ -116,11 +116,11 @@ module _ (s : Shape) (k : ℕ) where
     -- runs that cover all rows leave the lost column of the encoded stripe in the spare
     pub column-comes-back : (turn : Turn) (turns : List Turn) (old new : List ℕ) → length x ≡ stripeLength s → AllAgree s k (turn ∷ turns) x → Runs s k (turn ∷ turns) old new
         → ((i : ℕ) → i < rows s → covers (turn ∷ turns) i ≡ true) → new ≡ take (rows s * s .cell) (drop (place s (cellAt s 0 k)) x)
-    unfolding byteAt spareByte
+    unfolding spareByte
     column-comes-back turn turns old new long agree h all =
         same-rows s w new (take (rows s * s .cell) (drop (starts s lost) x)) (runs-long (turn ∷ turns) old new h ∙ first .buffers .whole)
         (part-long x (starts s lost) (rows s * s .cell) (omega (arith, long, ends)))
-        (λ i li t lt. row-comes-back (turn ∷ turns) old new agree h i li (all i li) t lt ∙ ap (λ (y : ℕ). getD x y 0) (down i li t)
+        (λ i li t lt. row-comes-back (turn ∷ turns) old new agree h i li (all i li) t lt ∙ byte-there s w x (cellNumber s i lost) t (there i li) ∙ ap (λ (y : ℕ). getD x y 0) (down i li t)
         ∙ sym (part-byte x (starts s lost) (rows s * s .cell) (i * s .cell + t) (omega (arith, row-ends s (rows s * s .cell) refl i li))))
       where
         first : RunRight s (length (turn .stripe)) (length old) lost (turn .plan) (turn .first)
@@ -128,6 +128,9 @@ module _ (s : Shape) (k : ℕ) where
 
         w : WellFormed s
         w = first .buffers .of .formed
+
+        there : (i : ℕ) → i < rows s → cellThere s (cellNumber s i lost) ≡ true
+        there i li = cell-there-at s w i lost li ∙ first .buffers .of .there
 
         down : (i : ℕ) → i < rows s → (t : ℕ) → place s (cellNumber s i lost) + t ≡ starts s lost + (i * s .cell + t)
         down i li t = omega (arith, place-down s w i lost (starts s lost) li refl)
@@ -141,7 +144,7 @@ module _ (s : Shape) (k : ℕ) where
             omega (
               arith,
               down last li 0,
-              place-inside s w (cellNumber s last lost) (cell-inside s w last lost li (first .buffers .of .column)),
+              place-inside s w (cellNumber s last lost) (cell-inside s w last lost li (first .buffers .of .column)) (there last li),
               add-mul last 1 (s .cell),
               one-mul (s .cell),
               ap (λ (n : ℕ). n * s .cell) whole,

@@ -1,18 +1,21 @@
 -- The column that leads. Every other column starts at least as many cells into the stripe as a column has, so that the places of a diagonal can be listed
--- less the row in which it meets that column, whatever the map between columns and where they lie.
+-- less the row in which it meets that column, whatever the map between columns and where they lie, where each of them exists.
 use mathlib.Core.Path.{_≡_, refl, sym, ap, ap₂, _∙_}
 use mathlib.Core.Logic.{_≢_}
+use mathlib.Core.Bool.{Bool, true, false}
 use Prim.Native.Nat.{ℕ, _+_, _-_, _*_, _%_, _≤_, _<_}
 use native.Mathlib.Nat.{mod-lt, mod-eq-of-lt, mod-add-mod, add-mod-right, mul-le-mul-right, one-mul, zero-mul, zero-add, mod-self}
 use native.Mathlib.Omega.{arith}
+use lib.Dec.{eqb}
+use borrow.Author.Tests.{eqb-true, eqb-false}
 use Rattle.xor.proofs.Cases.{by-equal, by-less}
 use Rattle.codes.specs.declared.Shape.{Shape}
-use Rattle.codes.specs.Shape.{rows, cellNumber, WellFormed}
-use Rattle.codes.specs.Geometry.{columnOf, liesAt, place}
-use Rattle.codes.proofs.Shapes.{low, rows-low}
+use Rattle.codes.specs.Shape.{rows, cellNumber, missing, WellFormed}
+use Rattle.codes.specs.Geometry.{gap, columnOf, liesAt, place}
+use Rattle.codes.proofs.Shapes.{low, rows-low, missing-low, disks-is}
 use Rattle.codes.proofs.Residues.{wrapped}
 use Rattle.codes.proofs.Lines.{rdp-rows, rdp-columns}
-use Rattle.codes.proofs.Geometry.{column-there, column-lies, place-at, place-down}
+use Rattle.codes.proofs.Geometry.{there-all, column-there, column-lies, place-at, place-down}
 use Rattle.plan.specs.Plan.{diagonal}
 use Rattle.plan.proofs.Diagonals.{home}
 use Rattle.spare.specs.Places.{starts, leader, inSlot}
@@ -29,13 +32,24 @@ OnDiagonal s k i = (i < rows s) × (diagonal s k i < rows s)
 abbrev pub meets : Shape → ℕ → ℕ → ℕ
 meets s k i = (diagonal s k i + (s .p - leader s)) % s .p
 
+-- ---- whether every column exists, as the code tests it
+
+module _ (s : Shape) (w : WellFormed s) (full : Bool) (is : full ≡ eqb (gap s) (s .p - 1)) where
+  pub none-missing : full ≡ true → missing s ≡ 0
+  none-missing e = omega (arith, missing-low s w, eqb-true (gap s) (s .p - 1) (sym is ∙ e))
+
+  pub some-missing : full ≡ false → missing s ≢ 0
+  some-missing e none = eqb-false (gap s) (s .p - 1) (sym is ∙ e) (omega (arith, none))
+
+-- ---- the column that leads
+
 module _ (s : Shape) (w : WellFormed s) (rdp : s .code ≡ 1) where
   some : 0 < s .p
   some = omega (arith, low s w)
 
   -- the column that lies first is one of columns 0 to p
   pub first-low : columnOf s 0 ≤ s .p
-  first-low = omega (arith, column-there s 0 (omega (arith, rdp-columns s w rdp)), rdp-columns s w rdp)
+  first-low = omega (arith, column-there s w 0 (omega (arith, disks-is s w, missing-low s w, rdp-columns s w rdp)), rdp-columns s w rdp)
 
   -- as the code works it out
   pub leads-is : (first lead : ℕ) → first ≡ columnOf s 0 → lead ≡ (0 + first) % s .p → lead ≡ leader s
@@ -50,23 +64,23 @@ module _ (s : Shape) (w : WellFormed s) (rdp : s .code ≡ 1) where
   unfolding inSlot
   slot-low x = mod-lt (s .p - 1 + s .p - x + leader s) some
 
-  -- another column than the one that lies first starts a column or more into the stripe
-  far : (j : ℕ) → j ≤ s .p → j ≢ columnOf s 0 → rows s * s .cell ≤ starts s j
-  far j l n = omega (arith, place-at s w 0 j (omega (arith, rows-low s w)), mul-le-mul-right {m = rows s} {n = liesAt s j * rows s + 0} (s .cell) (omega (arith, one-mul (rows s), mul-le-mul-right {m = 1} {n = liesAt s j} (rows s) later)))
+  -- where every column exists, another than the one that lies first starts a column or more into the stripe
+  far : missing s ≡ 0 → (j : ℕ) → j ≤ s .p → j ≢ columnOf s 0 → rows s * s .cell ≤ starts s j
+  far full j l n = omega (arith, place-at s w 0 j (omega (arith, rows-low s w)), mul-le-mul-right {m = rows s} {n = liesAt s j * rows s + 0} (s .cell) (omega (arith, one-mul (rows s), mul-le-mul-right {m = 1} {n = liesAt s j} (rows s) later)))
     where
       later : 1 ≤ liesAt s j
-      later = by-equal (liesAt s j) 0 (λ e. absurd (n (sym (column-lies s j (omega (arith, rdp-columns s w rdp))) ∙ ap (columnOf s) e))) (λ z. omega arith)
+      later = by-equal (liesAt s j) 0 (λ e. absurd (n (sym (column-lies s w j (there-all s full j)) ∙ ap (columnOf s) e))) (λ z. omega arith)
 
   -- so many rows are no more than a column
   rows-long : (t : ℕ) → t < s .p → t * s .cell ≤ rows s * s .cell
   rows-long t l = mul-le-mul-right (s .cell) (omega (arith, rdp-rows s w rdp))
 
   -- the column t past the one that leads starts t cells or more into the stripe
-  pub past-far : (t : ℕ) → t < s .p → t * s .cell ≤ starts s (past s t)
+  pub past-far : missing s ≡ 0 → (t : ℕ) → t < s .p → t * s .cell ≤ starts s (past s t)
   unfolding leader
-  past-far t l =
+  past-far full t l =
       by-equal t 0 (λ z. omega (arith, ap (λ (x : ℕ). x * s .cell) z, zero-mul (s .cell)))
-      (λ n. omega (arith, rows-long t l, far j (omega (arith, low-j)) (λ z. other n z)))
+      (λ n. omega (arith, rows-long t l, far full j (omega (arith, low-j)) (λ z. other n z)))
     where
       j : ℕ
       j = (t + leader s) % s .p
@@ -111,14 +125,14 @@ module _ (s : Shape) (w : WellFormed s) (rdp : s .code ≡ 1) where
     row-low = omega (arith, e, mod-lt (diagonal s k i + (s .p - leader s)) some)
 
     -- its parity cell starts as many cells or more into the stripe
-    pub parity-far : row * s .cell ≤ place s (cellNumber s (diagonal s k i) (s .p))
+    pub parity-far : missing s ≡ 0 → row * s .cell ≤ place s (cellNumber s (diagonal s k i) (s .p))
     unfolding leader
-    parity-far =
+    parity-far full =
         by-equal (columnOf s 0) (s .p)
         (λ z. let none : leader s ≡ 0 = ap (λ (x : ℕ). x % s .p) z ∙ mod-self (s .p) in
         let same : row ≡ diagonal s k i = e ∙ ap (λ (x : ℕ). (diagonal s k i + x) % s .p) (let all : s .p - leader s ≡ s .p = omega (arith, none) in all) ∙ add-mod-right (diagonal s k i) (s .p) ∙ mod-eq-of-lt (omega (arith, on .1, rdp-rows s w rdp)) in
         omega (arith, ap (λ (x : ℕ). x * s .cell) same, down))
-        (λ n. omega (arith, rows-long row row-low, far (s .p) (omega arith) (λ z. n (sym z)), down))
+        (λ n. omega (arith, rows-long row row-low, far full (s .p) (omega arith) (λ z. n (sym z)), down))
       where
         down : starts s (s .p) + diagonal s k i * s .cell ≡ place s (cellNumber s (diagonal s k i) (s .p))
         down = place-down s w (diagonal s k i) (s .p) (starts s (s .p)) (on .1) refl

@@ -2,7 +2,9 @@
 pub mod Column
 pub mod Refused
 pub mod Slots
+pub mod LeftOut
 pub mod Choice
+pub mod ShortRows
 pub mod Leads
 pub mod Tables
 pub mod Windows

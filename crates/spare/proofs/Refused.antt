@@ -6,7 +6,7 @@ use Prim.Native.Nat.{ℕ, _*_, _<_}
 use lib.Dec.{eqb, leb}
 use borrow.Author.Tests.{eq-eqb, eqb-true, leb-false, not-false}
 use Rattle.codes.specs.declared.Shape.{Shape}
-use Rattle.codes.specs.Shape.{rows, columns, stripeLength, WellFormed}
+use Rattle.codes.specs.Shape.{rows, disks, stripeLength, WellFormed}
 use Rattle.codes.specs.Geometry.{columnOf}
 use Rattle.codes.specs.Refusals.{fault, otherLength, outside, order, refusal}
 use Rattle.codes.proofs.Order.{After, after}
@@ -31,31 +31,31 @@ module _ (s : Shape) (bytes spare : ℕ) where
       let formed = rdp-accepted s (n .0) in
       (formed .0, formed .1, eqb-true bytes (stripeLength s) (not-false _ (n .1 .0)), eqb-true spare (rows s * s .cell) (not-false _ (n .1 .1 .0)))
 
-  -- a column inside such a stripe
-  pub buffers-right : (k : ℕ) → refusal (spareFaults s bytes spare) ≡ 0 → k < columns s → SpareRight s bytes spare k
+  -- the column that lies at a place inside such a stripe
+  pub buffers-right : (k : ℕ) → refusal (spareFaults s bytes spare) ≡ 0 → k < disks s → SpareRight s bytes spare (columnOf s k)
   buffers-right k none l =
       let a = spare-accepted none in
-      record { of = record { formed = a .0; rdp = a .1; column = l }; long = a .2; whole = a .3 }
+      record { of = lying s k (a .0, a .1, l); long = a .2; whole = a .3 }
 
 -- ---- a run by plan
 
 module _ (s : Shape) (bytes spare k plan first : ℕ) where
-  pub run-after : After (spareFaults s bytes spare) (outside k (columns s) ∷ outside first (s .p) ∷ fault 9 (not (isAccepted s (columnOf s k) plan)) ∷ [])
+  pub run-after : After (spareFaults s bytes spare) (outside k (disks s) ∷ outside first (s .p) ∷ fault 9 (not (isAccepted s (columnOf s k) plan)) ∷ [])
       (runFaults s bytes spare k plan first)
   unfolding runFaults spareFaults order
   run-after = after (spareFaults s bytes spare) _ refl refl
 
   module _ (none : refusal (runFaults s bytes spare k plan first) ≡ 0) where
-    -- a run that is not refused is for a place where a column of RDP lies
-    pub run-asked : SpareRight s bytes spare k
-    run-asked = let n = run-after .none none in buffers-right s bytes spare k (n .0) (leb-false (columns s) k (n .1 .0))
+    -- a run that is not refused is for a place where a column lies
+    pub run-asked : k < disks s
+    run-asked = let n = run-after .none none in leb-false (disks s) k (n .1 .0)
 
     -- and it is right for that column
     pub run-accepted : RunRight s bytes spare (columnOf s k) plan first
     run-accepted =
         let n = run-after .none none in
         record {
-          buffers = record { of = lying s k (run-asked .of); long = run-asked .long; whole = run-asked .whole };
+          buffers = buffers-right s bytes spare k (n .0) run-asked;
           accepted = not-false (isAccepted s (columnOf s k) plan) (n .1 .1 .1 .0);
           start = leb-false (s .p) first (n .1 .1 .0);
         }

@@ -2,20 +2,20 @@
 use mathlib.Core.Path.{_≡_, refl, sym, ap, _∙_}
 use mathlib.Core.Logic.{_⊎_, inl, inr, ⊎-elim}
 use mathlib.Core.List.{List}
-use mathlib.Core.Bool.{Bool, cond, not, _&&_}
+use mathlib.Core.Bool.{Bool, true, cond, not, _&&_}
 use Prim.Native.Nat.{ℕ, _+_, _-_, _*_, _≤_, _<_, min}
 use native.Mathlib.Nat.{zero-min, min-zero}
 use native.Mathlib.Omega.{arith}
 use lib.Dec.{eqb}
 use lib.ListN.{length}
-use Rattle.xor.proofs.Cases.{by-test, by-less}
+use Rattle.xor.proofs.Cases.{by-test, by-less, and-both}
 use Rattle.xor.proofs.Sums.{xors-same}
 use Rattle.xor.proofs.Sets.{any-at}
 use Rattle.codes.specs.declared.Shape.{Shape}
 use Rattle.codes.specs.declared.Counted.{Counted}
 use Rattle.codes.specs.declared.Counted.the-variants.{Count}
 use Rattle.codes.specs.Shape.{rows, cells, cellNumber, WellFormed}
-use Rattle.codes.specs.Geometry.{columnOf}
+use Rattle.codes.specs.Geometry.{cellThere, columnOf}
 use Rattle.codes.specs.Agree.{Agree}
 use Rattle.codes.specs.Encoded.{byteAt}
 use Rattle.codes.specs.Holders.{holds}
@@ -35,13 +35,17 @@ unread s k plan c = not (readsCell s k plan c)
 -- a row of column k that is rebuilt from stripes that agree on the cells the plan reads is the same
 pub row-same : (s : Shape) (k plan : ℕ) (stripe stripe′ : List ℕ) → Agree s (unread s k plan) stripe stripe′
     → (i : ℕ) → i < rows s → (t : ℕ) → t < s .cell → rebuiltByte s k plan stripe i t ≡ rebuiltByte s k plan stripe′ i t
-unfolding rebuiltByte others readsCell
+unfolding rebuiltByte others readsCell byteAt
 row-same s k plan stripe stripe′ agree i li t lt =
     xors-same (cells s) (λ c. cond (read i c) (byteAt s stripe c t) 0) (λ c. cond (read i c) (byteAt s stripe′ c t) 0)
-    (λ c lc. by-test (read i c) (λ p. ap (λ (x : ℕ). cond (read i c) x 0) (agree .same c lc (ap not (any-at (rows s) (λ j. read j c) i li p)) t lt)) (λ p. rw p refl))
+    (λ c lc. by-test (read i c) (λ p. ap (λ (x : ℕ). cond (read i c) x 0) (by-test (cellThere s c) (found c lc p) (λ h. rw h refl))) (λ p. rw p refl))
   where
     read : ℕ → ℕ → Bool
     read j c = holds s (chosen s k plan j) c && not (eqb c (cellNumber s j k))
+
+    -- a cell that exists is read
+    found : (c : ℕ) → c < cells s → read i c ≡ true → cellThere s c ≡ true → byteAt s stripe c t ≡ byteAt s stripe′ c t
+    found c lc p h = agree .same c lc (ap not (and-both h (any-at (rows s) (λ j. read j c) i li p))) t lt
 
 -- rows rebuilt from such stripes into equal spares
 rows-same : (s : Shape) → WellFormed s → (k plan first n : ℕ) (stripe stripe′ old x y : List ℕ) → Agree s (unread s k plan) stripe stripe′ → length old ≡ rows s * s .cell

@@ -15,11 +15,11 @@ use Rattle.xor.proofs.Algebra.{⊕-zero, ⊕-comm, ⊕-assoc, ⊕-self, ⊕-can
 use Rattle.xor.proofs.Sums.{xors-same, xors-one, xors-plus, set-apart}
 use Rattle.codes.specs.declared.Shape.{Shape}
 use Rattle.codes.specs.Shape.{cells, equations, WellFormed}
-use Rattle.codes.specs.Geometry.{place}
+use Rattle.codes.specs.Geometry.{cellThere, place}
 use Rattle.codes.specs.Encoded.{parityCell, byteAt, sumOver, total}
 use Rattle.codes.specs.Holders.{holds}
 use Rattle.codes.proofs.Ordered.{ordered}
-use Rattle.codes.proofs.Geometry.{place-inside}
+use Rattle.codes.proofs.Geometry.{place-inside, byte-there, parity-there}
 use Rattle.codes.proofs.Solutions.{total-holds}
 use Rattle.spare.specs.Run.{others}
 use Rattle.spare.specs.Places.{OthersAt}
@@ -60,23 +60,24 @@ module _ (s : Shape) (q own : ℕ) (h : Held s q own) where
       sym (⊕-assoc (sumOver s q f) (f (parityCell s q)) (f own)) ∙ ap (λ (x : ℕ). x ⊕ f own) (⊕-comm (sumOver s q f) (f (parityCell s q))) ∙ sym (others-are f)
 
   -- the cells that the equation sums are in n slots, g j in slot j; the places, `at` further on, are where cells start
-  module _ (n : ℕ) (g : ℕ → ℕ) (below : (j : ℕ) → j < n → g j < cells s) (sum : (f : ℕ → ℕ) → sumOver s q f ≡ xors n (λ j. f (g j)))
+  module _ (n : ℕ) (g : ℕ → ℕ) (below : (j : ℕ) → j < n → g j < cells s) (exist : (j : ℕ) → j < n → cellThere s (g j) ≡ true) (sum : (f : ℕ → ℕ) → sumOver s q f ≡ xors n (λ j. f (g j)))
       (at : ℕ) (places : List ℕ) (long : length places ≡ n) where
-    in-slots : (cell : ℕ → ℕ) → ((j : ℕ) → j < n → cell j < cells s) → ((f : ℕ → ℕ) → xors n (λ j. f (cell j)) ≡ others s q own f)
+    in-slots : (cell : ℕ → ℕ) → ((j : ℕ) → j < n → cell j < cells s) → ((j : ℕ) → j < n → cellThere s (cell j) ≡ true) → ((f : ℕ → ℕ) → xors n (λ j. f (cell j)) ≡ others s q own f)
         → ((j : ℕ) → j < n → getD places j 0 + at ≡ place s (cell j)) → OthersAt s q own at places
-    unfolding sumAt byteAt
-    in-slots cell inside is at-place = record {
-      inside = record { ends = λ j lj. let l : j < n = omega arith in omega (arith, at-place j l, place-inside s (h .formed) (cell j) (inside j l)) };
+    unfolding sumAt
+    in-slots cell inside there is at-place = record {
+      inside = record { ends = λ j lj. let l : j < n = omega arith in omega (arith, at-place j l, place-inside s (h .formed) (cell j) (inside j l) (there j l)) };
       sum = λ stripe t.
           ap (λ (m : ℕ). xors m (λ j. getD stripe (getD places j 0 + (at + t)) 0)) long
-          ∙ xors-same n (λ j. getD stripe (getD places j 0 + (at + t)) 0) (λ j. getD stripe (place s (cell j) + t) 0)
-          (λ j lj. ap (λ (x : ℕ). getD stripe x 0) (let exact : getD places j 0 + (at + t) ≡ place s (cell j) + t = omega (arith, at-place j lj) in exact))
-          ∙ is (λ c. getD stripe (place s c + t) 0);
+          ∙ xors-same n (λ j. getD stripe (getD places j 0 + (at + t)) 0) (λ j. byteAt s stripe (cell j) t)
+          (λ j lj. ap (λ (x : ℕ). getD stripe x 0) (let exact : getD places j 0 + (at + t) ≡ place s (cell j) + t = omega (arith, at-place j lj) in exact)
+          ∙ sym (byte-there s (h .formed) stripe (cell j) t (there j lj)))
+          ∙ is (λ c. byteAt s stripe c t);
     }
 
     -- the own cell is the equation's parity cell
     pub others-kept : own ≡ parityCell s q → ((j : ℕ) → j < n → getD places j 0 + at ≡ place s (g j)) → OthersAt s q own at places
-    others-kept e = in-slots g below (λ f. sym (sum f) ∙ others-of-parity e f)
+    others-kept e = in-slots g below exist (λ f. sym (sum f) ∙ others-of-parity e f)
 
     -- the own cell is that of slot m: the parity cell is there
     pub others-swapped : (m : ℕ) → m < n → g m ≡ own → getD places m 0 + at ≡ place s (parityCell s q)
@@ -85,6 +86,7 @@ module _ (s : Shape) (q own : ℕ) (h : Held s q own) where
         in-slots cell
         (λ j lj. by-equal j m (λ z. subst (λ (c : ℕ). c < cells s) (sym (cell-here j z)) (ordered s (h .formed) .inside q (h .equation)))
         (λ z. subst (λ (c : ℕ). c < cells s) (sym (cell-off j z)) (below j lj)))
+        (λ j lj. by-equal j m (λ z. ap (cellThere s) (cell-here j z) ∙ parity-there s (h .formed) q (h .equation)) (λ z. ap (cellThere s) (cell-off j z) ∙ exist j lj))
         (λ f. changed n (λ j. f (cell j)) (λ j. f (g j)) m lm (λ j lj z. ap f (cell-off j z))
         ∙ ap₂ _⊕_ (sym (sum f)) (ap₂ (λ (x y : ℕ). f x ⊕ f y) (cell-here m refl) e) ∙ others-of-summed f)
         (λ j lj. by-equal j m (λ z. ap (λ (i : ℕ). getD places i 0 + at) z ∙ here ∙ ap (place s) (sym (cell-here j z)))

@@ -10,7 +10,7 @@ use lib.ListN.{length, getD, set, length-set}
 use lib.Seq.{getD-set-same, getD-set-other}
 use Rattle.xor.proofs.Cases.{by-equal, by-less}
 use Rattle.codes.specs.declared.Shape.{Shape}
-use Rattle.codes.specs.Shape.{cellNumber, WellFormed}
+use Rattle.codes.specs.Shape.{cellNumber, missing, WellFormed}
 use Rattle.codes.specs.Geometry.{place}
 use Rattle.codes.proofs.Shapes.{high}
 use Rattle.codes.proofs.Residues.{there-and-back}
@@ -178,9 +178,9 @@ module _ (s : Shape) (k : ℕ) (of : RdpColumn s k) (i r : ℕ) (on : OnDiagonal
   own lk = slot-column s w (of .rdp) (diagonal s k i) r i e (omega (arith, li)) ∙ ap (home s i) (diagonal-turned s k i lk (omega (arith, li))) ∙ home-back s i k (omega (arith, li)) lk
 
   -- the parity cell's place in its slot
-  pub swapped : (at : ℕ) → k < s .p → at ≡ place s (cellNumber s (diagonal s k i) (s .p)) → Swapped s k i r (set places (s .p - 1 - r + i) (at - r * s .cell))
+  pub swapped : missing s ≡ 0 → (at : ℕ) → k < s .p → at ≡ place s (cellNumber s (diagonal s k i) (s .p)) → Swapped s k i r (set places (s .p - 1 - r + i) (at - r * s .cell))
   unfolding x
-  swapped at lk z = record {
+  swapped full at lk z = record {
     row = e;
     level = record {
       other = λ j l n. getD-set-other places x (64 + j) v 0 (λ here. omega (arith, x-low)) ∙ level .other j l n;
@@ -190,7 +190,7 @@ module _ (s : Shape) (k : ℕ) (of : RdpColumn s k) (i r : ℕ) (on : OnDiagonal
       long = length-set places x v ∙ slant .long;
       slot = λ y l n. ap (λ (u : ℕ). u + (s .p - 1) * s .cell) (getD-set-other places x y v 0 (λ here. n (ap (inSlot s) here ∙ own lk))) ∙ slant .slot y l n;
     };
-    parity = λ _. omega (arith, getD-set-same places x v 0 (omega (arith, x-low, slant .long)), z, parity-far s w (of .rdp) k i r on e);
+    parity = λ _. omega (arith, getD-set-same places x v 0 (omega (arith, x-low, slant .long)), z, parity-far s w (of .rdp) k i r on e full);
   }
     where
       v : ℕ

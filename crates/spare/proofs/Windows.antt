@@ -13,25 +13,25 @@ use Rattle.xor.proofs.Cases.{by-equal, clash}
 use Rattle.xor.proofs.Runs.{part-long, part-byte}
 use Rattle.bits.specs.Bit.{bit}
 use Rattle.codes.specs.declared.Shape.{Shape}
-use Rattle.codes.specs.Shape.{rows, cells, cellNumber, WellFormed}
-use Rattle.codes.specs.Geometry.{place}
+use Rattle.codes.specs.Shape.{rows, cells, cellNumber, missing, WellFormed}
+use Rattle.codes.specs.Geometry.{cellThere, place}
 use Rattle.codes.specs.Encoded.{parityCell, sumOver}
 use Rattle.codes.proofs.Shapes.{low, high}
 use Rattle.codes.proofs.Lines.{rdp-columns, rdp-row-sum, rdp-diagonal-sum}
-use Rattle.codes.proofs.Geometry.{place-down}
+use Rattle.codes.proofs.Geometry.{there-all, cell-there-at, place-down}
 use Rattle.codes.proofs.Positions.{cell-inside, rdp-first, rdp-second}
 use Rattle.plan.specs.Plan.{diagonal, chosen}
 use Rattle.plan.proofs.Column.{last-row, last-column}
 use Rattle.plan.proofs.Diagonals.{home, home-back, diagonal-back, diagonal-below, diagonal-last, diagonal-turned}
 use Rattle.plan.proofs.Accepted.{every-row}
 use Rattle.plan.proofs.Cells.{taken-low}
-use Rattle.spare.specs.Places.{starts, LevelPlaces, inSlot, SlantPlaces, RowRight, OthersAt, Aimed}
+use Rattle.spare.specs.Places.{starts, LevelPlaces, inSlot, SlantPlaces, Listed, RowRight, OthersAt, Aimed}
 use Rattle.spare.proofs.Choice.{by-row, by-diagonal, chosen-held}
 use Rattle.spare.proofs.Leads.{OnDiagonal, slot-column, row-low}
 use Rattle.spare.proofs.Slots.{Held, others-kept, others-swapped}
 use Rattle.spare.proofs.Tables.{Swapped}
 
-module _ (s : Shape) (k plan i : ℕ) (right : RowRight s k plan i) where
+module _ (s : Shape) (k plan i : ℕ) (right : RowRight s k plan i) (full : missing s ≡ 0) where
   w : WellFormed s
   w = right .of .formed
 
@@ -43,6 +43,13 @@ module _ (s : Shape) (k plan i : ℕ) (right : RowRight s k plan i) where
 
   cell-below : (r j : ℕ) → r < s .p - 1 → j < s .p → cellNumber s r j < cells s
   cell-below r j lr lj = cell-inside s w r j (omega (arith, n-is)) (omega (arith, rdp-columns s w (right .of .rdp)))
+
+  cell-there : (r j : ℕ) → r < s .p - 1 → cellThere s (cellNumber s r j) ≡ true
+  cell-there r j lr = cell-there-at s w r j (omega (arith, n-is)) ∙ there-all s full j
+
+  -- what is listed for all rows stays so
+  listed-too : (places : List ℕ) → LevelPlaces s k places → SlantPlaces s k places → Listed s k places
+  listed-too places level slant = record { long = slant .long; level = λ _. level; slant = λ _. slant }
 
   held : (q : ℕ) → chosen s k plan i ≡ q → Held s q (cellNumber s i k)
   held q e = subst (λ (x : ℕ). Held s x (cellNumber s i k)) e (chosen-held s k plan i right)
@@ -75,10 +82,10 @@ module _ (s : Shape) (k plan i : ℕ) (right : RowRight s k plan i) where
     row-others =
         subst (λ (q : ℕ). OthersAt s q (cellNumber s i k) (i * s .cell) (part 64 places fits)) (sym (by-row s k plan i taken))
         (by-equal k (s .p - 1)
-        (λ e. others-kept s i (cellNumber s i k) own (s .p - 1) (cellNumber s i) below sum (i * s .cell) (part 64 places fits) (long 64 places fits)
+        (λ e. others-kept s i (cellNumber s i k) own (s .p - 1) (cellNumber s i) below there sum (i * s .cell) (part 64 places fits) (long 64 places fits)
         (ap (cellNumber s i) e ∙ sym (rdp-first s w (right .of .rdp) i li)) (λ j l. row-place j l (λ z. omega arith)))
         (λ e. let lk : k < s .p - 1 = omega (arith, k-low) in
-        others-swapped s i (cellNumber s i k) own (s .p - 1) (cellNumber s i) below sum (i * s .cell) (part 64 places fits) (long 64 places fits) k lk refl (parity-place lk) row-place))
+        others-swapped s i (cellNumber s i k) own (s .p - 1) (cellNumber s i) below there sum (i * s .cell) (part 64 places fits) (long 64 places fits) k lk refl (parity-place lk) row-place))
       where
         k-low : k < s .p
         k-low = by-equal k (s .p) (λ e. clash (every-row s k plan (right .of) (right .accepted) e i (right .row)) taken) (λ e. omega (arith, last-column s k (right .of)))
@@ -89,11 +96,14 @@ module _ (s : Shape) (k plan i : ℕ) (right : RowRight s k plan i) where
         below : (j : ℕ) → j < s .p - 1 → cellNumber s i j < cells s
         below j l = cell-below i j li (omega arith)
 
+        there : (j : ℕ) → j < s .p - 1 → cellThere s (cellNumber s i j) ≡ true
+        there j l = cell-there i j li
+
         sum : (f : ℕ → ℕ) → sumOver s i f ≡ xors (s .p - 1) (λ j. f (cellNumber s i j))
         sum = rdp-row-sum s w (right .of .rdp) i li
 
-    pub aimed-row : SlantPlaces s k places → Aimed s k plan i (record { from = 64; ahead = i }) places
-    aimed-row slant = record { inside = omega (arith, high s w); ahead = omega (arith, li); level = h; slant = slant; cells = row-others }
+    pub aimed-row : SlantPlaces s k places → Aimed s k plan i (record { from = 64; count = s .p - 1; ahead = i }) places
+    aimed-row slant = record { inside = omega (arith, high s w); ahead = omega (arith, li); listed = listed-too places h slant; cells = row-others }
 
   -- ---- by diagonal: slot r of the p - 1 from p - 1 - row on has the place of row r's cell
 
@@ -162,10 +172,10 @@ module _ (s : Shape) (k plan i : ℕ) (right : RowRight s k plan i) where
       diagonal-others =
           subst (λ (q : ℕ). OthersAt s q (cellNumber s i k) (row * s .cell) list) (sym q-is)
           (by-equal k (s .p)
-          (λ e. others-kept s (s .p - 1 + d) (cellNumber s i k) own (s .p - 1) cell below sum (row * s .cell) list (long (s .p - 1 - row) places fits)
+          (λ e. others-kept s (s .p - 1 + d) (cellNumber s i k) own (s .p - 1) cell below there sum (row * s .cell) list (long (s .p - 1 - row) places fits)
           (ap₂ (cellNumber s) (sym (diagonal-last s k i e)) e ∙ sym parity-is) (λ r lr. place-of r lr (λ z. omega (arith, column-low r))))
           (λ e. let lk : k < s .p = omega (arith, last-column s k (right .of)) in
-          others-swapped s (s .p - 1 + d) (cellNumber s i k) own (s .p - 1) cell below sum (row * s .cell) list (long (s .p - 1 - row) places fits) i li
+          others-swapped s (s .p - 1 + d) (cellNumber s i k) own (s .p - 1) cell below there sum (row * s .cell) list (long (s .p - 1 - row) places fits) i li
           (ap (cellNumber s i) (own-column lk)) (parity-at lk) (λ r lr n. place-of r lr (λ z. n (once lk r lr z)))))
         where
           cell : ℕ → ℕ
@@ -180,8 +190,11 @@ module _ (s : Shape) (k plan i : ℕ) (right : RowRight s k plan i) where
           below : (r : ℕ) → r < s .p - 1 → cell r < cells s
           below r lr = cell-below r (home s r d) lr (column-low r)
 
+          there : (r : ℕ) → r < s .p - 1 → cellThere s (cell r) ≡ true
+          there r lr = cell-there r (home s r d) lr
+
           sum : (f : ℕ → ℕ) → sumOver s (s .p - 1 + d) f ≡ xors (s .p - 1) (λ r. f (cell r))
           sum = rdp-diagonal-sum s w (right .of .rdp) d d-low (λ r. home s r d) (λ r lr. (column-low r, column-on r lr))
 
-      pub aimed-diagonal : Aimed s k plan i (record { from = s .p - 1 - row; ahead = row }) places
-      aimed-diagonal = record { inside = omega (arith, high s w); ahead = low-row; level = h .level; slant = h .slant; cells = diagonal-others }
+      pub aimed-diagonal : Aimed s k plan i (record { from = s .p - 1 - row; count = s .p - 1; ahead = row }) places
+      aimed-diagonal = record { inside = omega (arith, high s w); ahead = low-row; listed = listed-too places (h .level) (h .slant); cells = diagonal-others }

@@ -1,10 +1,10 @@
--- The refusals of run and show, which are for RDP alone: document 01, "Refusal numbers".
+-- The refusals of run and show, which are for RDP alone: document 01, "Refusal numbers", and document 02.
 use mathlib.Core.List.{List, [], _∷_, _++_}
 use mathlib.Core.Bool.{not, _&&_}
 use Prim.Native.Nat.{ℕ, _*_}
 use lib.Dec.{eqb, leb}
 use Rattle.codes.specs.declared.Shape.{Shape}
-use Rattle.codes.specs.Shape.{rows, columns, stripeLength}
+use Rattle.codes.specs.Shape.{rows, disks, stripeLength}
 use Rattle.codes.specs.Geometry.{columnOf}
 use Rattle.codes.specs.Refusals.{Fault, fault, otherLength, outside}
 use Rattle.plan.specs.Plan.{isAccepted}
@@ -17,4 +17,4 @@ spareFaults s bytes spare = rdpFaults s ++ otherLength bytes (stripeLength s) �
 -- the refusals of a run for the column at place k by a plan from a first row on; first row p-1 is inside
 unfoldable pub runFaults : Shape → ℕ → ℕ → ℕ → ℕ → ℕ → List Fault
 runFaults s bytes spare k plan first =
-    spareFaults s bytes spare ++ outside k (columns s) ∷ outside first (s .p) ∷ fault 9 (not (isAccepted s (columnOf s k) plan)) ∷ []
+    spareFaults s bytes spare ++ outside k (disks s) ∷ outside first (s .p) ∷ fault 9 (not (isAccepted s (columnOf s k) plan)) ∷ []

@@ -4,15 +4,20 @@
 ghost use mathlib.Core.Path.{_≡_};
 ghost use Prim.Native.Nat.{_+_, _-_, _*_, _≤_, _<_, min};
 ghost use lib.ListN.{length};
-ghost use Rattle.codes.specs.Shape.{rows, WellFormed};
+ghost use lib.Dec.{eqb};
+ghost use Rattle.codes.specs.Shape.{rows, missing, WellFormed};
+ghost use Rattle.codes.specs.Geometry.{gap};
 ghost use Rattle.codes.specs.Refusals.{refusal};
 ghost use Rattle.plan.specs.Right.{RdpColumn};
 ghost use Rattle.spare.specs.Refusals.{spareFaults, runFaults};
 ghost use Rattle.spare.specs.Right.{RunRight};
-ghost use Rattle.spare.specs.Places.{LevelPlaces, leader, ColumnPut, SlantPlaces, RowRight, Aimed, RowReady, RowDone};
+ghost use Rattle.spare.specs.Places.{LevelPlaces, leader, ColumnPut, SlantPlaces, Listed, RowRight, Aimed, RowReady, RowDone};
 ghost use Rattle.spare.specs.Run.{RowsRebuilt, RunsByPlan};
 use codes::Counted;
 use codes::Shape;
+
+mod short;
+
 pub use plan::PlanAnswer;
 pub use plan::ReadPlan;
 pub use plan::plan;
@@ -24,9 +29,10 @@ const LEVEL: usize = 2 * codes::PLACES;
 // All slots.
 const SLOTS: usize = LEVEL + codes::PLACES;
 
-// Where in the list a row's own places start, and how many cells past them its cells do.
+// Where in the list a row's own places start, how many they are, and how many cells past them its cells start.
 struct Window {
     from: usize,
+    count: usize,
     ahead: usize,
 }
 
@@ -55,7 +61,7 @@ fn run_refusal(shape: Shape, bytes: usize, spare: usize, k: usize, plan: u64, fi
     if refusal != 0 {
         return refusal;
     }
-    if codes::column_count(shape) <= k {
+    if codes::disk_count(shape) <= k {
         return 6;
     }
     if shape.p <= first {
@@ -65,6 +71,14 @@ fn run_refusal(shape: Shape, bytes: usize, spare: usize, k: usize, plan: u64, fi
         return 9;
     }
     0
+}
+
+// Whether every data column exists.
+fn is_full(shape: Shape) -> bool
+    requires { ⌜ WellFormed shape ⌝ }
+    ensures { λ r. ⌜ r ≡ eqb (gap shape) (shape .p - 1) ⌝ }
+{
+    codes::data_columns(shape) == shape.p - 1
 }
 
 // The column that leads: the one that lies first, or column 0 where that is the diagonal parity column. No other of the first p columns starts
@@ -90,7 +104,7 @@ fn put_column(places: &mut [usize; SLOTS], p: usize, t: usize, above: usize, bel
 // Lists where the first p columns start, for rows, and where the cells of a diagonal do that meets the column that leads in row 0: one that meets it
 // in row r has its own, row after row, from slot p - 1 - r on, each r cells further on.
 fn list_places(shape: Shape, lead: usize, places: &mut [usize; SLOTS])
-    requires { ⌜ WellFormed shape × (shape .code ≡ 1) × (lead ≡ leader shape) × (length (now places) ≡ 96) ⌝ }
+    requires { ⌜ WellFormed shape × (shape .code ≡ 1) × (missing shape ≡ 0) × (lead ≡ leader shape) × (length (now places) ≡ 96) ⌝ }
     ensures { λ _. ⌜ LevelPlaces shape (shape .p) (now (places .exit)) × SlantPlaces shape (shape .p) (now (places .exit)) ⌝ }
 {
     let p = shape.p;
@@ -119,25 +133,59 @@ fn swap_row_parity(shape: Shape, k: usize, places: &mut [usize; SLOTS])
     }
 }
 
-// The window of row i: its places by its row, or by its diagonal, which has the place of the diagonal's parity cell put in for column k's.
-fn aim(shape: Shape, lead: usize, k: usize, plan: u64, i: usize, places: &mut [usize]) -> Window
-    requires { ⌜ RowRight shape k plan i × (lead ≡ leader shape) × LevelPlaces shape k (now places) × SlantPlaces shape k (now places) ⌝ }
+// Lists where the cells of all rows start, where every column exists; elsewhere each row lists its own.
+fn list_rows(shape: Shape, lead: usize, k: usize, places: &mut [usize; SLOTS])
+    requires { ⌜ RdpColumn shape k × (lead ≡ leader shape) × (length (now places) ≡ 96) ⌝ }
+    ensures { λ _. ⌜ Listed shape k (now (places .exit)) ⌝ }
+{
+    if !is_full(shape) {
+        return;
+    }
+    list_places(shape, lead, places);
+    swap_row_parity(shape, k, places);
+}
+
+// The window of row i in the list for all rows: its places by its row, or by its diagonal, which has the place of the diagonal's parity cell
+// put in for column k's.
+fn aim_listed(
+    shape: Shape,
+    lead: usize,
+    k: usize,
+    plan: u64,
+    i: usize,
+    places: &mut [usize],
+) -> Window
+    requires { ⌜ RowRight shape k plan i × (missing shape ≡ 0) × (lead ≡ leader shape) × LevelPlaces shape k (now places)
+        × SlantPlaces shape k (now places) ⌝ }
     ensures { λ r. ⌜ Aimed shape k plan i r (now (places .exit)) ⌝ }
 {
+    let p = shape.p;
+    let count = p - 1;
     if plan & bits::one_bit(i) == 0 {
         return Window {
             from: LEVEL,
+            count,
             ahead: i,
         };
     }
-    let p = shape.p;
     let d = codes::turned(i, k, p);
     let ahead = codes::turned(d, p - lead, p);
-    let from = p - 1 - ahead;
+    let from = count - ahead;
     if k < p {
         places[from + i] = codes::cell_place(shape, d, p) - ahead * shape.cell;
     }
-    Window { from, ahead }
+    Window { from, count, ahead }
+}
+
+// The window of row i: in the list for all rows, or in its own where some column doesn't exist.
+fn aim(shape: Shape, lead: usize, k: usize, plan: u64, i: usize, places: &mut [usize]) -> Window
+    requires { ⌜ RowRight shape k plan i × (lead ≡ leader shape) × Listed shape k (now places) ⌝ }
+    ensures { λ r. ⌜ Aimed shape k plan i r (now (places .exit)) ⌝ }
+{
+    if is_full(shape) {
+        return aim_listed(shape, lead, k, plan, i, places);
+    }
+    short::aim(shape, k, plan, i, places)
 }
 
 // Rebuilds row i of column k into its part of the spare: the XOR of the other cells of the equation by which the plan takes it.
@@ -156,13 +204,13 @@ fn rebuild_row(
 {
     let window = aim(shape, lead, k, plan, i, places);
     let from = window.from;
-    let to = from + (shape.p - 1);
+    let to = from + window.count;
     let at = window.ahead * shape.cell;
     xor::put_sum_whole(part, stripe, &places[from..to], at);
 }
 
 // Rebuilds n rows of the spare from the first on, each into its own part: no other byte of the spare changes. Where their cells start is
-// listed once, for all of them.
+// listed once, for all of them, where every column exists.
 fn run_rows(
     shape: Shape,
     stripe: &[u8],
@@ -177,8 +225,7 @@ fn run_rows(
 {
     let mut places = [0usize; SLOTS];
     let lead = leading(shape);
-    list_places(shape, lead, &mut places);
-    swap_row_parity(shape, k, &mut places);
+    list_rows(shape, lead, k, &mut places);
     let cell = shape.cell;
     let end = first + n;
     let mut i = first;
@@ -215,7 +262,7 @@ fn smaller(a: usize, b: usize) -> usize
 }
 
 // Run by plan: rebuilds the column at place k of an RDP stripe into the spare, from the first row on and at most as many rows as the budget.
-// Answers how many: the smaller of the budget and of the rows left; or refusal 1, 2, 3, 4, 5, 6 or 9, with every byte as it was.
+// Answers how many: the smaller of the budget and of the rows left; or refusal 1, 2, 14, 3, 4, 5, 6 or 9, with every byte as it was.
 pub fn run(
     shape: Shape,
     stripe: &[u8],

@@ -1,11 +1,13 @@
 -- `plan::plan` meets its contract. It is the refusal, or the plan by the rule with its reads.
 use mathlib.Core.Path.{_≡_, sym, _∙_, subst}
-use Prim.Native.Nat.{ℕ, _^_, _<_}
+use Prim.Native.Nat.{_<_}
+use Rattle.codes.specs.Shape.{disks, WellFormed}
 use Rattle.codes.specs.Refusals.{refusal}
 use Rattle.plan.specs.Refusals.{planFaults}
 use Rattle.plan.specs.Right.{RdpColumn}
 use Rattle.plan.proofs.Refused.{plan-accepted}
-use Rattle.plan.proofs.Column.{last-row, lying}
+use Rattle.plan.proofs.Column.{lying}
+use Rattle.plan.proofs.PlanFacts.{rule-accepted}
 use Rattle.plan.proofs.Planning.{plan-refused, plan-given}
 use borrow.Author.Needs.{needs}
 use Rattle.plan.proofs.plan.Statement.{statement}
@@ -22,21 +24,21 @@ none : (c : tie.Else1) → refusal (planFaults (c .before .before .args .shape) 
 none c = sym (c .before .plan-refusal .ensures) ∙ c .if1 .left
 
 -- the place is one of the stripe's
-asked : (c : tie.Else1) → RdpColumn (c .before .before .args .shape) (c .before .before .args .k)
+asked : (c : tie.Else1) → let a = c .before .before .args in WellFormed (a .shape) × (a .shape .code ≡ 1) × (a .k < disks (a .shape))
 asked c = plan-accepted (c .before .before .args .shape) (c .before .before .args .k) (none c)
 
 column-of-requires : tie.Need-column-of-requires
-column-of-requires c κs = (asked c .formed, asked c .column)
+column-of-requires c κs = (asked c .0, asked c .2)
+
+-- what lies there is a column of RDP
+lost : (c : tie.After-column-of) → RdpColumn (c .before .before .before .args .shape) (c .column-of .result)
+lost c = subst (RdpColumn (c .before .before .before .args .shape)) (sym (c .column-of .ensures)) (lying _ _ (asked (c .before)))
 
 rule-rows-requires : tie.Need-rule-rows-requires
-rule-rows-requires c κs =
-    let b = c .before in
-    subst (RdpColumn (b .before .before .args .shape)) (sym (c .column-of .ensures)) (lying _ _ (asked b))
+rule-rows-requires c κs = lost c
 
 reads-by-requires : tie.Need-reads-by-requires
-reads-by-requires c κs =
-    let of = asked (c .before .before) in
-    (of .formed, subst (λ (n : ℕ). c .rule-rows .result < 2 ^ n) (sym (last-row _ _ of)) (c .rule-rows .ensures .low))
+reads-by-requires c κs = (lost (c .before), rule-accepted _ _ _ (lost (c .before)) (c .rule-rows .ensures))
 
 returns-2 : tie.Need-returns-2
 returns-2 c =

@@ -18,16 +18,16 @@ returns c = plan-after (c .before .before .args .shape) (c .before .before .args
 right-of : (c : tie.Else1) → refusal (rdpFaults (c .before .before .args .shape)) ≡ 0
 right-of c = sym (c .before .rdp-refusal .ensures) ∙ c .if1 .left
 
-column-count-requires : tie.Need-column-count-requires
-column-count-requires c κs = rdp-accepted (c .before .before .args .shape) (right-of c) .0
+disk-count-requires : tie.Need-disk-count-requires
+disk-count-requires c κs = rdp-accepted (c .before .before .args .shape) (right-of c) .0
 
 returns-2 : tie.Need-returns-2
-returns-2 c = plan-after (c .before .before .before .before .args .shape) (c .before .before .before .before .args .k) .own (right-of (c .before .before)) (hit (beyond (c .before .column-count .ensures) (c .if2 .taken)))
+returns-2 c = plan-after (c .before .before .before .before .args .shape) (c .before .before .before .before .args .k) .own (right-of (c .before .before)) (hit (beyond (c .before .disk-count .ensures) (c .if2 .taken)))
 
 returns-3 : tie.Need-returns-3
-returns-3 c = plan-after (c .before .before .before .before .args .shape) (c .before .before .before .before .args .k) .own (right-of (c .before .before)) (miss (inside (c .before .column-count .ensures) (c .if2 .left)) right)
+returns-3 c = plan-after (c .before .before .before .before .args .shape) (c .before .before .before .before .args .k) .own (right-of (c .before .before)) (miss (inside (c .before .disk-count .ensures) (c .if2 .left)) right)
 
 pub plan-refusal-spec : {M : Type 1} → statement M
 plan-refusal-spec =
     tie.close
-    (tie.spec rdp-refusal-requires returns column-count-requires returns-2 returns-3)
+    (tie.spec rdp-refusal-requires returns disk-count-requires returns-2 returns-3)

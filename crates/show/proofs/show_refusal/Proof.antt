@@ -6,7 +6,7 @@ use Prim.Native.Nat.{ℕ}
 use lib.Dec.{eqb, leb}
 use borrow.Author.Tests.{eq-eqb, ne-eqb, le-leb, lt-leb}
 use Rattle.xor.proofs.Cases.{and-both}
-use Rattle.codes.specs.Shape.{columns, WellFormed}
+use Rattle.codes.specs.Shape.{disks, WellFormed}
 use Rattle.codes.specs.Refusals.{fault, outside, refusal}
 use Rattle.codes.proofs.Order.{Gives, hit, miss, right, beyond, inside}
 use Rattle.spare.specs.Refusals.{spareFaults}
@@ -38,23 +38,23 @@ returns-2 c =
     let a = c .before .before .before .before .args in
     show-after (a .shape) (a .bytes) (a .spare) (a .k) (a .done) (a .row) (a .column) .own (right-of (c .before .before)) (hit (beyond (c .before .row-count .ensures) (c .if2 .taken)))
 
-column-count-requires : tie.Need-column-count-requires
-column-count-requires c κs = formed (c .before .before)
+disk-count-requires : tie.Need-disk-count-requires
+disk-count-requires c κs = formed (c .before .before)
 
 -- past the second test the row is inside, and the tests that are left decide
 past-row : {r : ℕ} (c : tie.Else2) → let a = c .before .before .before .before .args in
-    Gives (outside (a .column) (columns (a .shape)) ∷ outside (a .k) (columns (a .shape)) ∷ outside (a .done) (a .shape .p) ∷ fault 10 (eqb (a .column) (a .k) && leb (a .done) (a .row)) ∷ []) r
+    Gives (outside (a .column) (disks (a .shape)) ∷ outside (a .k) (disks (a .shape)) ∷ outside (a .done) (a .shape .p) ∷ fault 10 (eqb (a .column) (a .k) && leb (a .done) (a .row)) ∷ []) r
     → r ≡ refusal (showFaults (a .shape) (a .bytes) (a .spare) (a .k) (a .done) (a .row) (a .column))
 past-row c g =
     let a = c .before .before .before .before .args in
     show-after (a .shape) (a .bytes) (a .spare) (a .k) (a .done) (a .row) (a .column) .own (right-of (c .before .before)) (miss (inside (c .before .row-count .ensures) (c .if2 .left)) g)
 
 returns-3 : tie.Need-returns-3
-returns-3 c = past-row (c .before .before) (hit (beyond (c .before .column-count .ensures) (c .if3 .taken)))
+returns-3 c = past-row (c .before .before) (hit (beyond (c .before .disk-count .ensures) (c .if3 .taken)))
 
 returns-4 : tie.Need-returns-4
 returns-4 c =
-    let n = c .before .before .column-count .ensures in
+    let n = c .before .before .disk-count .ensures in
     past-row (c .before .before .before) (miss (inside n (c .before .if3 .left)) (hit (beyond n (c .if4 .taken))))
 
 -- past the fourth both columns are inside, and the tests that are left decide
@@ -62,7 +62,7 @@ past-columns : {r : ℕ} (c : tie.Else4) → let a = c .before .before .before .
     Gives (outside (a .done) (a .shape .p) ∷ fault 10 (eqb (a .column) (a .k) && leb (a .done) (a .row)) ∷ []) r
     → r ≡ refusal (showFaults (a .shape) (a .bytes) (a .spare) (a .k) (a .done) (a .row) (a .column))
 past-columns c g =
-    let n = c .before .before .column-count .ensures in
+    let n = c .before .before .disk-count .ensures in
     past-row (c .before .before .before) (miss (inside n (c .before .if3 .left)) (miss (inside n (c .if4 .left)) g))
 
 returns-5 : tie.Need-returns-5
@@ -91,7 +91,7 @@ show-refusal-spec =
     returns
     row-count-requires
     returns-2
-    column-count-requires
+    disk-count-requires
     returns-3
     returns-4
     returns-5

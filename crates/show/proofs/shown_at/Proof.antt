@@ -1,7 +1,8 @@
 -- `show::shown_at` meets its contract. The refusal comes first; a cell of another column lies in the stripe, and one of column k in the spare.
-use mathlib.Core.Path.{_≡_, sym, _∙_}
+use mathlib.Core.Path.{_≡_, sym, ap, _∙_}
 use native.Mathlib.Omega.{arith}
-use Rattle.codes.proofs.Geometry.{column-there}
+use Rattle.codes.proofs.Geometry.{column-there, is-there}
+use Rattle.codes.specs.Geometry.{isThere}
 use Rattle.codes.specs.Refusals.{refusal}
 use Rattle.show.specs.Refusals.{showFaults}
 use Rattle.show.proofs.Refused.{ShowRight, show-accepted}
@@ -35,8 +36,10 @@ column-of-requires c κs = let r = right-of (c .before) in (r .buffers .of .form
 
 cell-place-requires : tie.Need-cell-place-requires
 cell-place-requires c κs =
+    let s = c .before .before .before .before .args .shape in
     let r = right-of (c .before .before) in
-    (r .buffers .of .formed, r .low, omega (arith, c .column-of .ensures, column-there (c .before .before .before .before .args .shape) _ (r .right)))
+    let w = r .buffers .of .formed in
+    (r .buffers .of .formed, r .low, omega (arith, c .column-of .ensures, column-there s w _ (r .right)), ap (isThere s) (c .column-of .ensures) ∙ is-there s w _)
 
 returns-3 : tie.Need-returns-3
 returns-3 c =

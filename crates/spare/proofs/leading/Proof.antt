@@ -1,13 +1,13 @@
 -- `spare::leading` meets its contract: column p is no further on than column 0.
 use native.Mathlib.Omega.{arith}
-use Rattle.codes.proofs.Shapes.{low, high}
+use Rattle.codes.proofs.Shapes.{low, high, missing-low, disks-is}
 use Rattle.codes.proofs.Lines.{rdp-columns}
 use Rattle.spare.proofs.Leads.{first-low, leads-is}
 use Rattle.spare.proofs.leading.Statement.{statement}
 use Rattle.spare.proofs.leading.Tie as tie
 
 column-of-requires : tie.Need-column-of-requires
-column-of-requires c κs = (c .pre .0, omega (arith, rdp-columns _ (c .pre .0) (c .pre .1)))
+column-of-requires c κs = (c .pre .0, omega (arith, rdp-columns _ (c .pre .0) (c .pre .1), disks-is _ (c .pre .0), missing-low _ (c .pre .0)))
 
 turned-requires : tie.Need-turned-requires
 turned-requires c κs =

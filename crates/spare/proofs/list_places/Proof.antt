@@ -4,7 +4,7 @@ use Prim.Native.Nat.{_-_, _≤_, _<_}
 use native.Mathlib.Omega.{arith}
 use Rattle.codes.proofs.Shapes.{high}
 use Rattle.codes.proofs.Lines.{rdp-columns}
-use Rattle.codes.proofs.Geometry.{first-small}
+use Rattle.codes.proofs.Geometry.{there-all, first-small}
 use Rattle.spare.specs.Places.{starts}
 use Rattle.spare.proofs.Leads.{past, leader-low, past-low, past-is, past-far}
 use Rattle.spare.proofs.Tables.{step-small, Filled, filled-none, filled-more, filled-all}
@@ -21,16 +21,16 @@ mul-turn : tie.Need-mul-turn Inv-loop μ-loop
 mul-turn c = let w = c .before .pre .0 in omega (arith, step-small _ w _ (high _ w))
 
 loop-holds : tie.Need-loop-holds Inv-loop μ-loop
-loop-holds c = (omega arith, filled-none _ (c .before .pre .0) _ (c .before .pre .3))
+loop-holds c = (omega arith, filled-none _ (c .before .pre .0) _ (c .before .pre .4))
 
 turned-requires : tie.Need-turned-requires Inv-loop μ-loop
 turned-requires c κs =
     let pre = c .before .before .before .pre in
-    (c .loop-test .taken, omega (arith, pre .2, leader-low _ (pre .0) (pre .1)), omega (arith, high _ (pre .0)))
+    (c .loop-test .taken, omega (arith, pre .3, leader-low _ (pre .0) (pre .1)), omega (arith, high _ (pre .0)))
 
 -- the column is t past the one that leads
 column-is : (c : tie.After-turned Inv-loop μ-loop) → c .turned .result ≡ past (c .before .before .before .before .args .shape) (c .before .before .loop .t)
-column-is c = let pre = c .before .before .before .before .pre in past-is _ (pre .0) (pre .1) _ _ _ (pre .2) (c .turned .ensures)
+column-is c = let pre = c .before .before .before .before .pre in past-is _ (pre .0) (pre .1) _ _ _ (pre .3) (c .turned .ensures)
 
 column-low : (c : tie.After-turned Inv-loop μ-loop) → c .turned .result < c .before .before .before .before .args .shape .p
 column-low c = let pre = c .before .before .before .before .pre in past-low _ (pre .0) (pre .1) _ _ (column-is c)
@@ -38,7 +38,7 @@ column-low c = let pre = c .before .before .before .before .pre in past-low _ (p
 column-place-requires : tie.Need-column-place-requires Inv-loop μ-loop
 column-place-requires c κs =
     let pre = c .before .before .before .before .pre in
-    (pre .0, omega (arith, column-low c, rdp-columns _ (pre .0) (pre .1)))
+    (pre .0, omega (arith, column-low c, rdp-columns _ (pre .0) (pre .1)), there-all _ (pre .2) _)
 
 -- and it is far enough into the stripe
 fits : (c : tie.After-column-place Inv-loop μ-loop) → c .before .before .before .loop .back ≤ c .column-place .result
@@ -50,7 +50,7 @@ fits c =
       c .before .before .before .loop .inv .1 .next,
       c .column-place .ensures,
       ap (starts s) (column-is (c .before)),
-      past-far s (start .pre .0) (start .pre .1) _ (c .before .before .loop-test .taken),
+      past-far s (start .pre .0) (start .pre .1) (start .pre .2) _ (c .before .before .loop-test .taken),
     )
 
 sub-above : tie.Need-sub-above Inv-loop μ-loop
@@ -62,7 +62,7 @@ add-put-column c =
     omega (
       arith,
       c .before .column-place .ensures,
-      first-small _ (pre .0) (c .before .before .turned .result) (omega (arith, column-low (c .before .before), rdp-columns _ (pre .0) (pre .1))),
+      first-small _ (pre .0) (c .before .before .turned .result) (omega (arith, column-low (c .before .before), rdp-columns _ (pre .0) (pre .1))) (there-all _ (pre .2) _),
       step-small _ (pre .0) _ (high _ (pre .0)),
     )
 

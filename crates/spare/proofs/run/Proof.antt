@@ -37,7 +37,7 @@ smaller-requires : tie.Need-smaller-requires
 smaller-requires c κs = search needs
 
 column-of-requires : tie.Need-column-of-requires
-column-of-requires c κs = let asked = run-asked _ _ _ _ _ _ (none (c .before .before)) .of in (asked .formed, asked .column)
+column-of-requires c κs = let b = c .before .before in (right b .buffers .of .formed, run-asked _ _ _ _ _ _ (none b))
 
 run-rows-requires : tie.Need-run-rows-requires
 run-rows-requires c κs =

@@ -2,9 +2,10 @@
 use mathlib.Core.Path.{_≡_, sym, ap, _∙_, subst}
 use mathlib.Core.List.{[], _∷_}
 use mathlib.Core.Bool.{not}
-use Prim.Native.Nat.{ℕ}
+use Prim.Native.Nat.{ℕ, _<_}
 use native.Mathlib.Omega.{arith}
 use borrow.Author.Tests.{le-leb, lt-leb}
+use Rattle.codes.specs.Shape.{disks, WellFormed}
 use Rattle.codes.specs.Geometry.{columnOf}
 use Rattle.codes.specs.Refusals.{fault, outside, refusal}
 use Rattle.codes.proofs.Order.{Gives, hit, miss, right, beyond, inside}
@@ -12,7 +13,7 @@ use Rattle.plan.specs.Plan.{isAccepted}
 use Rattle.plan.specs.Right.{RdpColumn}
 use Rattle.plan.proofs.Column.{lying}
 use Rattle.spare.specs.Refusals.{spareFaults, runFaults}
-use Rattle.spare.proofs.Refused.{spare-accepted, buffers-right, run-after}
+use Rattle.spare.proofs.Refused.{spare-accepted, run-after}
 use borrow.Author.Needs.{needs}
 use Rattle.spare.proofs.run_refusal.Statement.{statement}
 use Rattle.spare.proofs.run_refusal.Tie as tie
@@ -27,13 +28,13 @@ returns c = let a = c .before .before .args in run-after (a .shape) (a .bytes) (
 right-of : (c : tie.Else1) → refusal (spareFaults (c .before .before .args .shape) (c .before .before .args .bytes) (c .before .before .args .spare)) ≡ 0
 right-of c = sym (c .before .spare-refusal .ensures) ∙ c .if1 .left
 
-column-count-requires : tie.Need-column-count-requires
-column-count-requires c κs = let a = c .before .before .args in spare-accepted (a .shape) (a .bytes) (a .spare) (right-of c) .0
+disk-count-requires : tie.Need-disk-count-requires
+disk-count-requires c κs = let a = c .before .before .args in spare-accepted (a .shape) (a .bytes) (a .spare) (right-of c) .0
 
 returns-2 : tie.Need-returns-2
 returns-2 c =
     let a = c .before .before .before .before .args in
-    run-after (a .shape) (a .bytes) (a .spare) (a .k) (a .plan) (a .first) .own (right-of (c .before .before)) (hit (beyond (c .before .column-count .ensures) (c .if2 .taken)))
+    run-after (a .shape) (a .bytes) (a .spare) (a .k) (a .plan) (a .first) .own (right-of (c .before .before)) (hit (beyond (c .before .disk-count .ensures) (c .if2 .taken)))
 
 -- past the second test the column is inside, and the tests that are left decide
 left-tests : {r : ℕ} (c : tie.Else2) → let a = c .before .before .before .before .args in
@@ -41,7 +42,7 @@ left-tests : {r : ℕ} (c : tie.Else2) → let a = c .before .before .before .be
     → r ≡ refusal (runFaults (a .shape) (a .bytes) (a .spare) (a .k) (a .plan) (a .first))
 left-tests c g =
     let a = c .before .before .before .before .args in
-    run-after (a .shape) (a .bytes) (a .spare) (a .k) (a .plan) (a .first) .own (right-of (c .before .before)) (miss (inside (c .before .column-count .ensures) (c .if2 .left)) g)
+    run-after (a .shape) (a .bytes) (a .spare) (a .k) (a .plan) (a .first) .own (right-of (c .before .before)) (miss (inside (c .before .disk-count .ensures) (c .if2 .left)) g)
 
 returns-3 : tie.Need-returns-3
 returns-3 c =
@@ -49,13 +50,14 @@ returns-3 c =
     left-tests (c .before .before) (hit (le-leb (a .shape .p) (a .first) (c .if3 .taken)))
 
 -- past the third the place is one of the stripe's
-asked : (c : tie.Else3) → let a = c .before .before .before .before .before .before .args in RdpColumn (a .shape) (a .k)
+asked : (c : tie.Else3) → let a = c .before .before .before .before .before .before .args in WellFormed (a .shape) × (a .shape .code ≡ 1) × (a .k < disks (a .shape))
 asked c =
     let a = c .before .before .before .before .before .before .args in
-    buffers-right (a .shape) (a .bytes) (a .spare) (a .k) (right-of (c .before .before .before .before)) (omega (arith, c .before .before .before .column-count .ensures, c .before .before .if2 .left)) .of
+    let formed = spare-accepted (a .shape) (a .bytes) (a .spare) (right-of (c .before .before .before .before)) in
+    (formed .0, formed .1, omega (arith, c .before .before .before .disk-count .ensures, c .before .before .if2 .left))
 
 column-of-requires : tie.Need-column-of-requires
-column-of-requires c κs = (asked c .formed, asked c .column)
+column-of-requires c κs = (asked c .0, asked c .2)
 
 is-accepted-requires : tie.Need-is-accepted-requires
 is-accepted-requires c κs =
@@ -80,7 +82,7 @@ run-refusal-spec =
     (tie.spec
     spare-refusal-requires
     returns
-    column-count-requires
+    disk-count-requires
     returns-2
     returns-3
     column-of-requires

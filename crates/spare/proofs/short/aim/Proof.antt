@@ -1,0 +1,49 @@
+-- `spare::short::aim` meets its contract. The equation holds the row's cell of the lost column, so that its place is in the list.
+use mathlib.Core.Path.{refl}
+use native.Mathlib.Omega.{arith}
+use Rattle.spare.proofs.Choice.{chosen-held}
+use Rattle.spare.proofs.ShortRows.{row-some, row-aimed}
+use borrow.Author.Needs.{needs}
+use Rattle.spare.proofs.short.aim.Statement.{statement}
+use Rattle.spare.proofs.short.aim.Tie as tie
+
+equation-of-requires : tie.Need-equation-of-requires
+equation-of-requires c κs = search needs
+
+cells-of-requires : tie.Need-cells-of-requires
+cells-of-requires c κs =
+    let right = c .before .before .before .pre .0 in
+    (right .of .formed, omega (arith, c .before .equation-of .ensures, chosen-held _ _ _ _ right .equation), refl)
+
+sub-count : tie.Need-sub-count
+sub-count c =
+    let made = c .before .before in
+    row-some _ _ _ _ (made .before .before .pre .0) _ _ _ (made .equation-of .ensures) (c .cells-of .ensures)
+
+cell-place-requires : tie.Need-cell-place-requires
+cell-place-requires c κs = search needs
+
+put-others-requires : tie.Need-put-others-requires
+put-others-requires c κs = search needs
+
+same-length : tie.Need-same-length
+same-length c = search needs
+
+returns : tie.Need-returns
+returns c =
+    let listed = c .before .before .before .before .before .before in
+    let made = listed .before .before in
+    let pre = made .before .before .pre in
+    row-aimed _ _ _ _ (pre .0) _ _ _ (made .equation-of .ensures) (listed .cells-of .ensures) (pre .1) _ _ (c .before .before .before .before .before .cell-place .ensures) (c .before .before .put-others .ensures)
+
+pub aim-spec : {M : Type 1} → statement M
+aim-spec =
+    tie.close
+    (tie.spec
+    equation-of-requires
+    cells-of-requires
+    sub-count
+    cell-place-requires
+    put-others-requires
+    same-length
+    returns)
