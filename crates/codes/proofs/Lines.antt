@@ -1,4 +1,4 @@
--- The six families of equations as tracks: each track goes once through the cells that its equation sums, those that don't exist too.
+-- RDP's equations as tracks: each track goes once through the cells that its equation sums, those that don't exist too. The extent of the codes.
 use mathlib.Core.Path.{_≡_, refl, sym, ap, ap₂, _∙_, subst}
 use mathlib.Core.Logic.{_≢_}
 use mathlib.Core.Bool.{true, not, _&&_}
@@ -234,7 +234,7 @@ module _ (s : Shape) (w : WellFormed s) where
         (λ i li. ap f (ap₂ (cellNumber s) (let same : 0 + 1 * i ≡ i = omega arith in same)
         (ap (λ (n : ℕ). (n + (s .p - 1) * i) % s .p) (let same : s .p - 1 + d - (s .p - 1) ≡ d = omega arith in same) ∙ rdp-back d i (column i) (on i li .0) (on i li .1))))
 
-  -- ---- H-Code: both families start in the column after their parity column's next, r + 2
+  -- ---- H-Code
 
   module _ (is-hcode : s .code ≡ 2) where
     pub hcode-rows : s .p - 1 ≡ rows s
@@ -251,89 +251,6 @@ module _ (s : Shape) (w : WellFormed s) where
 
     pub hcode-anti-is : (q : ℕ) → s .p - 1 ≤ q → equation s q ≡ hcodeAntiDiagonal (s .p) (q - (s .p - 1))
     hcode-anti-is = second-of s (hcode (s .p)) (hcode-is s is-hcode)
-
-    module _ (r : ℕ) (lr : r < s .p - 1) (column : ℕ) (starts : column ≡ (r + 2) % s .p) where
-      pos : 0 < s .p
-      pos = omega (arith, low s w)
-
-      -- how far column r + 2 is from p
-      y : ℕ
-      y = s .p - 2 - r
-
-      whole : (r + 2) + y ≡ s .p
-      unfolding y
-      whole = omega arith
-
-      column-small : column < s .p
-      column-small = subst (λ (n : ℕ). n < s .p) (sym starts) (mod-lt (r + 2) pos)
-
-      column-is : (k : ℕ) → (column + 1 * k) % s .p ≡ (k + (r + 2)) % s .p
-      column-is k = ap (λ (n : ℕ). (n + 1 * k) % s .p) starts ∙ mod-add-mod (r + 2) (s .p) (1 * k) ∙ ap (λ (n : ℕ). n % s .p) same
-        where
-          same : r + 2 + 1 * k ≡ k + (r + 2)
-          same = omega arith
-
-      inside : (k : ℕ) → (column + 1 * k) % s .p < s .p
-      inside k = mod-lt (column + 1 * k) pos
-
-      -- from the column back to k, and from a column j to its k
-      back : (k : ℕ) → k < s .p → ((column + 1 * k) % s .p + y) % s .p ≡ k
-      back k lk = ap (λ (n : ℕ). (n + y) % s .p) (column-is k) ∙ there-and-back (s .p) k (r + 2) y lk whole
-
-      forth : (j : ℕ) → j < s .p → (column + 1 * ((j + y) % s .p)) % s .p ≡ j
-      forth j lj = column-is ((j + y) % s .p) ∙ there-and-back (s .p) j y (r + 2) lj (add-comm y (r + 2) ∙ whole)
-
-      -- the column r + 1 comes last, at k = p - 1, where the line has ended
-      last : (r + 1 + y) % s .p ≡ s .p - 1
-      last = ap (λ (n : ℕ). n % s .p) end ∙ mod-eq-of-lt (omega (arith, pos))
-        where
-          end : r + 1 + y ≡ s .p - 1
-          end = omega (arith, whole)
-
-      misses : (k : ℕ) → k < s .p - 1 → (column + 1 * k) % s .p ≢ r + 1
-      misses k lk e = let z : k ≡ s .p - 1 = sym (back k (omega arith)) ∙ ap (λ (n : ℕ). (n + y) % s .p) e ∙ last in omega arith
-
-      ends : (j : ℕ) → j < s .p → j ≢ r + 1 → (j + y) % s .p < s .p - 1
-      ends j lj n =
-          by-equal ((j + y) % s .p) (s .p - 1)
-          (λ e. absurd (n (sym (forth j lj) ∙ ap (λ (k : ℕ). (column + 1 * k) % s .p) (e ∙ sym last) ∙ forth (r + 1) (omega arith))))
-          (λ e. let small = mod-lt (j + y) pos in omega arith)
-
-      hcode-row′ : equation s r ≡ hcodeRow (s .p) r → Tracked s r (flat (s .p - 1) r column)
-      hcode-row′ is =
-          walks r (hcodeRow (s .p) r) _ is
-          (along (hcodeRow (s .p) r) (s .p - 1) r column
-          (omega (arith, low s w)) (omega (arith, high s w)) (omega (arith, hcode-rows)) column-small
-          (λ k lk. and-both (eq-eqb r r refl) (and-both (lt-ltb ((column + 1 * k) % s .p) (s .p) (inside k)) (ap not (ne-eqb ((column + 1 * k) % s .p) (r + 1) (misses k lk)))))
-          (λ i j li lj p.
-          let rest = and-right (eqb i r) (ltb j (s .p) && not (eqb j (r + 1))) p in
-          let lj′ : j < s .p = ltb-true j (s .p) (and-left (ltb j (s .p)) (not (eqb j (r + 1))) rest) in
-          let other : j ≢ r + 1 = eqb-false j (r + 1) (not-true (eqb j (r + 1)) (and-right (ltb j (s .p)) (not (eqb j (r + 1))) rest)) in
-          ((j + y) % s .p, ends j lj′ other, eqb-true i r (and-left (eqb i r) (ltb j (s .p) && not (eqb j (r + 1))) p), forth j lj′))
-          (λ j k lj lk c. sym (back j (omega arith)) ∙ ap (λ (n : ℕ). (n + y) % s .p) c ∙ back k (omega arith)))
-
-      hcode-anti′ : (q : ℕ) → equation s q ≡ hcodeAntiDiagonal (s .p) r → Tracked s q (fallen (s .p - 1) column 1)
-      unfolding y
-      hcode-anti′ q is =
-          walks q (hcodeAntiDiagonal (s .p) r) _ is
-          (falling (hcodeAntiDiagonal (s .p) r) (s .p - 1) column 1
-          (omega (arith, low s w)) (omega (arith, high s w)) (omega (arith, hcode-rows)) column-small (omega (arith, low s w))
-          (λ k lk.
-          and-both (lt-ltb ((column + 1 * k) % s .p) (s .p) (inside k))
-          (and-both (ap not (ne-eqb ((column + 1 * k) % s .p) (r + 1) (misses k lk)))
-          (eq-eqb k ((s .p - 2 - r + (column + 1 * k) % s .p) % s .p) (sym (ap (λ (n : ℕ). n % s .p) (add-comm (s .p - 2 - r) ((column + 1 * k) % s .p)) ∙ back k (omega arith))))))
-          (λ i j li lj p.
-          let lj′ : j < s .p = ltb-true j (s .p) (and-left (ltb j (s .p)) (not (eqb j (r + 1)) && eqb i ((s .p - 2 - r + j) % s .p)) p) in
-          let at : i ≡ (s .p - 2 - r + j) % s .p = eqb-true i ((s .p - 2 - r + j) % s .p)
-          (and-right (not (eqb j (r + 1))) (eqb i ((s .p - 2 - r + j) % s .p)) (and-right (ltb j (s .p)) (not (eqb j (r + 1)) && eqb i ((s .p - 2 - r + j) % s .p)) p)) in
-          (omega (arith, hcode-rows), ap (λ (n : ℕ). (column + 1 * n) % s .p) (at ∙ ap (λ (n : ℕ). n % s .p) (add-comm (s .p - 2 - r) j)) ∙ forth j lj′)))
-
-    pub hcode-row : (q column : ℕ) → q < s .p - 1 → column ≡ (q + 2) % s .p → Tracked s q (flat (s .p - 1) q column)
-    hcode-row q column l starts = hcode-row′ q l column starts (hcode-row-is q l)
-
-    pub hcode-anti : (q column : ℕ) → s .p - 1 ≤ q → q < equations s → column ≡ (q - (s .p - 1) + 2) % s .p
-        → Tracked s q (fallen (s .p - 1) column 1)
-    hcode-anti q column lo hi starts = hcode-anti′ (q - (s .p - 1)) (omega (arith, hcode-n)) column starts q (hcode-anti-is q lo)
 
   -- ---- X-Code
 
@@ -352,45 +269,3 @@ module _ (s : Shape) (w : WellFormed s) where
 
     pub xcode-second-is : (q : ℕ) → s .p ≤ q → equation s q ≡ xcodeSecond (s .p) (q - s .p)
     xcode-second-is = second-of s (xcode (s .p)) (xcode-is s is-xcode)
-
-    -- a family of X-Code: in row k below p - 2 it sums the cell of one column
-    family : (q c row column step : ℕ) (at : ℕ → ℕ) → equation s q ≡ record { row = row; column = c; sums = λ k j. ltb k (s .p - 2) && eqb j (at k) }
-        → column < s .p → step < s .p → ((k : ℕ) → k < s .p - 2 → (column + step * k) % s .p ≡ at k)
-        → Tracked s q (fallen (s .p - 2) column step)
-    family q c row column step at is lc ls goes =
-        walks q e _ is
-        (falling e (s .p - 2) column step
-        (omega (arith, low s w)) (omega (arith, high s w)) (omega (arith, xcode-rows)) lc ls
-        (λ k lk. and-both (lt-ltb k (s .p - 2) lk) (eq-eqb ((column + step * k) % s .p) (at k) (goes k lk)))
-        (λ i j li lj p.
-        let small : i < s .p - 2 = ltb-true i (s .p - 2) (and-left (ltb i (s .p - 2)) (eqb j (at i)) p) in
-        (small, goes i small ∙ sym (eqb-true j (at i) (and-right (ltb i (s .p - 2)) (eqb j (at i)) p)))))
-      where
-        e : Equation
-        e = record { row = row; column = c; sums = λ k j. ltb k (s .p - 2) && eqb j (at k) }
-
-    pub xcode-first : (q column : ℕ) → q < s .p → column ≡ (q + 2) % s .p → Tracked s q (fallen (s .p - 2) column 1)
-    xcode-first q column l starts =
-        family q q (s .p - 2) column 1 (λ k. (q + k + 2) % s .p) (xcode-first-is q l)
-        (subst (λ (n : ℕ). n < s .p) (sym starts) (mod-lt (q + 2) (omega arith))) (omega (arith, low s w))
-        (λ k lk. ap (λ (n : ℕ). (n + 1 * k) % s .p) starts ∙ mod-add-mod (q + 2) (s .p) (1 * k) ∙ ap (λ (n : ℕ). n % s .p) (same k))
-      where
-        same : (k : ℕ) → q + 2 + 1 * k ≡ q + k + 2
-        same k = omega arith
-
-    pub xcode-second : (q column : ℕ) → s .p ≤ q → q < equations s → column ≡ (q - s .p + (s .p - 2)) % s .p
-        → Tracked s q (fallen (s .p - 2) column (s .p - 1))
-    xcode-second q column lo hi starts =
-        family q c (s .p - 1) column (s .p - 1) (λ k. (s .p + c - k - 2) % s .p) (xcode-second-is q lo)
-        (subst (λ (n : ℕ). n < s .p) (sym starts) (mod-lt (c + (s .p - 2)) pos)) (omega (arith, pos))
-        (λ k lk. ap (λ (n : ℕ). (n + (s .p - 1) * k) % s .p) starts ∙ mod-add-mod (c + (s .p - 2)) (s .p) ((s .p - 1) * k)
-        ∙ ap (λ (n : ℕ). n % s .p) (same k lk) ∙ turns (s .p) k (s .p + c - k - 2))
-      where
-        c : ℕ
-        c = q - s .p
-
-        pos : 0 < s .p
-        pos = omega (arith, low s w)
-
-        same : (k : ℕ) → k < s .p - 2 → c + (s .p - 2) + (s .p - 1) * k ≡ k * s .p + (s .p + c - k - 2)
-        same k lk = omega (arith, steps-back (s .p) k pos)

@@ -10,7 +10,7 @@ use lib.Dec.{eqb}
 use lib.ListN.{length, getD, set, length-set}
 use lib.Seq.{getD-set-same, getD-set-other}
 use borrow.Author.Tests.{eq-eqb, ne-eqb}
-use Rattle.xor.specs.Xor.{_⊕_}
+use Rattle.xor.specs.Xor.{_⊕_, xors}
 use Rattle.xor.proofs.Cases.{by-equal, clash}
 use Rattle.xor.proofs.Algebra.{⊕-comm}
 use Rattle.xor.proofs.Sums.{xors-same, xors-more}
@@ -20,16 +20,16 @@ use Rattle.codes.specs.declared.Sources.{Sources}
 use Rattle.codes.specs.Shape.{cells, equations, stripeLength, WellFormed}
 use Rattle.codes.specs.Geometry.{callersCell, place}
 use Rattle.codes.specs.Encoded.{parityCell, sumsCell, byteAt, sumOver, total}
-use Rattle.codes.specs.Lines.{wrap, walked, Short, Walks, Placed, Found, Holding}
+use Rattle.codes.specs.Lines.{walked, Short, lineCount, lineCell, Walks, Placed, Summing, Found, Holding}
 use Rattle.codes.proofs.Ordered.{ordered}
 use Rattle.codes.proofs.Geometry.{place-inside, place-small, place-apart, parity-there, byte-there, byte-missing}
-use Rattle.codes.proofs.Stepping.{wrap-bytes, walked-next}
+use Rattle.codes.proofs.Stepping.{walked-next, count-plain, count-extra, cell-walked, cell-extra}
 
 -- ---- one cell after the other
 
 -- a line by its numbers alone
-abbrev pub line : ℕ → ℕ → ℕ → ℕ → ℕ → Line
-line first step around turn second = record { to = 0; count = 0; first = first; step = step; around = around; turn = turn; second = second }
+abbrev pub line : ℕ → ℕ → ℕ → ℕ → Line
+line first step turn second = record { count = 0; first = first; step = step; turn = turn; second = second; extra = 0 }
 
 -- the code has filled in the places of the first k cells, and stands at cell k
 pub record Filled (l : Line) (count : ℕ) (places : List ℕ) (at k : ℕ) : Type 0 where
@@ -42,11 +42,11 @@ module _ (l : Line) (count : ℕ) where
   unfolding walked
   filled-none places long = record { long = long; here = refl; done = λ j lj. absurd (omega arith) }
 
-  pub filled-more : (places : List ℕ) (at k next : ℕ) → k < 32 → Filled l count places at k → next ≡ cond (eqb (k + 1) (l .turn)) (l .second) (wrap (l .around) (at + l .step))
+  pub filled-more : (places : List ℕ) (at k next : ℕ) → k < 32 → Filled l count places at k → next ≡ cond (eqb (k + 1) (l .turn)) (l .second) (at + l .step)
       → Filled l count (set places k at) next (k + 1)
   filled-more places at k next lk h e = record {
     long = length-set places k at ∙ h .long;
-    here = e ∙ ap (λ (x : ℕ). cond (eqb (k + 1) (l .turn)) (l .second) (wrap (l .around) (x + l .step))) (h .here) ∙ sym (walked-next l k);
+    here = e ∙ ap (λ (x : ℕ). cond (eqb (k + 1) (l .turn)) (l .second) (x + l .step)) (h .here) ∙ sym (walked-next l k);
     done = λ j lj. by-equal j k
         (λ q. ap (λ (i : ℕ). getD (set places k at) i 0) q ∙ getD-set-same places k at 0 (omega (arith, h .long)) ∙ h .here ∙ ap (walked l) (sym q))
         (λ q. getD-set-other places k j at 0 q ∙ h .done j (omega arith));
@@ -57,7 +57,7 @@ module _ (l : Line) (count : ℕ) where
 module _ (s : Shape) (w : WellFormed s) (l : Line) where
   -- the line with its numbers in bytes
   abbrev pub inBytes : Line
-  inBytes = line (l .first * s .cell) (l .step * s .cell) (l .around * s .cell) (l .turn) (l .second * s .cell)
+  inBytes = line (l .first * s .cell) (l .step * s .cell) (l .turn) (l .second * s .cell)
 
   pub bytes-walked : (k : ℕ) → walked inBytes k ≡ walked l k * s .cell
   unfolding walked
@@ -66,7 +66,7 @@ module _ (s : Shape) (w : WellFormed s) (l : Line) where
       by-equal (suc k) (l .turn)
       (λ e. rw (eq-eqb (suc k) (l .turn) e) refl)
       (λ e. rw (ne-eqb (suc k) (l .turn) e)
-      (ap (wrap (l .around * s .cell)) (ap (λ (x : ℕ). x + l .step * s .cell) (bytes-walked k) ∙ sym (add-mul (walked l k) (l .step) (s .cell))) ∙ wrap-bytes (l .around) (walked l k + l .step) (s .cell) (w .cellLow)))
+      (ap (λ (x : ℕ). x + l .step * s .cell) (bytes-walked k) ∙ sym (add-mul (walked l k) (l .step) (s .cell))))
 
   module _ (h : Short l) where
     pub bytes-small : (n : ℕ) → n ≤ 1024 → n * s .cell ≤ 4194304
@@ -78,39 +78,74 @@ module _ (s : Shape) (w : WellFormed s) (l : Line) where
   pub all-placed : (places : List ℕ) (at k : ℕ) → Filled inBytes (l .count) places at k → l .count ≤ k → Placed s l places
   all-placed places at k f lk = record { long = f .long; at = λ j lj. f .done j (omega arith) ∙ bytes-walked j }
 
+-- ---- the cells that an equation sums: those that its line walks, and the extra one
+
+module _ (s : Shape) (w : WellFormed s) (q : ℕ) (l : Line) (h : Walks s q l) (places : List ℕ) (at : Placed s l places) where
+  at-line : (k : ℕ) → k < lineCount l → (x : ℕ) → x ≡ lineCell l k * s .cell → x ≡ place s (h .cell k)
+  unfolding place
+  at-line k lk x e = e ∙ ap (λ (c : ℕ). c * s .cell) (h .at k lk)
+
+  pub summing-plain : l .extra ≡ 0 → Summing s q (l .count) places
+  summing-plain e = record {
+    few = omega (arith, h .short .few);
+    long = at .long;
+    cell = h .cell;
+    inside = λ k lk. h .inside k (omega (arith, many));
+    there = λ k lk. h .there k (omega (arith, many));
+    at = λ k lk. at-line k (omega (arith, many)) _ (at .at k lk ∙ ap (λ (c : ℕ). c * s .cell) (sym (cell-walked l k lk)));
+    summed = λ k lk. h .summed k (omega (arith, many));
+    sum = λ f blank. h .sum f blank ∙ ap (λ (n : ℕ). xors n (λ k. f (h .cell k))) many;
+  }
+    where
+      many : lineCount l ≡ l .count
+      many = count-plain l e
+
+  pub summing-extra : l .extra ≢ 0 → Summing s q (l .count + 1) (set places (l .count) (l .extra * s .cell))
+  summing-extra e = record {
+    few = omega (arith, h .short .few);
+    long = length-set places (l .count) (l .extra * s .cell) ∙ at .long;
+    cell = h .cell;
+    inside = λ k lk. h .inside k (omega (arith, many));
+    there = λ k lk. h .there k (omega (arith, many));
+    at = λ k lk. by-equal k (l .count)
+        (λ z. at-line k (omega (arith, many)) _ (ap (λ (j : ℕ). getD (set places (l .count) (l .extra * s .cell)) j 0) z ∙ getD-set-same places (l .count) (l .extra * s .cell) 0 (omega (arith, at .long, h .short .few)) ∙ ap (λ (c : ℕ). c * s .cell) (sym (cell-extra l k (omega arith)))))
+        (λ z. let lk′ : k < l .count = omega arith in at-line k (omega (arith, many)) _ (getD-set-other places (l .count) k (l .extra * s .cell) 0 z ∙ at .at k lk′ ∙ ap (λ (c : ℕ). c * s .cell) (sym (cell-walked l k lk′))));
+    summed = λ k lk. h .summed k (omega (arith, many));
+    sum = λ f blank. h .sum f blank ∙ ap (λ (n : ℕ). xors n (λ k. f (h .cell k))) many;
+  }
+    where
+      many : lineCount l ≡ l .count + 1
+      many = count-extra l e
+
 -- ---- the parity cell, and those that its equation sums
 
-module _ (s : Shape) (w : WellFormed s) (q : ℕ) (lq : q < equations s) (l : Line) (h : Walks s q l) where
-  pub to-is : l .to * s .cell ≡ place s (parityCell s q)
+module _ (s : Shape) (w : WellFormed s) (q : ℕ) (lq : q < equations s) where
+  pub parity-at : (x : ℕ) → x ≡ callersCell s (parityCell s q) → x * s .cell ≡ place s (parityCell s q)
   unfolding place
-  to-is = ap (λ (x : ℕ). x * s .cell) (h .to)
+  parity-at x e = ap (λ (c : ℕ). c * s .cell) e
 
-  pub to-small : l .to * s .cell ≤ 3936256
-  to-small = omega (arith, to-is, place-small s w (parityCell s q) (ordered s w .inside q lq) (parity-there s w q lq))
+  pub parity-small : place s (parityCell s q) ≤ 3936256
+  parity-small = place-small s w (parityCell s q) (ordered s w .inside q lq) (parity-there s w q lq)
 
-  module _ (places : List ℕ) (at : Placed s l places) where
-    at-place : (k : ℕ) → k < l .count → getD places k 0 ≡ place s (h .cell k)
-    unfolding place
-    at-place k lk = at .at k lk ∙ ap (λ (x : ℕ). x * s .cell) (h .at k lk)
-
+  module _ (n : ℕ) (places : List ℕ) (h : Summing s q n places) (to : ℕ) (to-is : to ≡ place s (parityCell s q)) where
     -- the parity cell is none of those that its equation sums
-    parity-apart : (k : ℕ) → k < l .count → h .cell k ≢ parityCell s q
+    parity-apart : (k : ℕ) → k < n → h .cell k ≢ parityCell s q
     parity-apart k lk e = clash (h .summed k lk) (ap (sumsCell s q) e ∙ ordered s w .unsummed q q (omega arith) lq)
 
-    byte-of : (stripe : List ℕ) (t k : ℕ) → k < l .count → getD stripe (getD places k 0 + t) 0 ≡ byteAt s stripe (h .cell k) t
-    byte-of stripe t k lk = ap (λ (x : ℕ). getD stripe (x + t) 0) (at-place k lk) ∙ sym (byte-there s w stripe (h .cell k) t (h .there k lk))
+    byte-of : (stripe : List ℕ) (t k : ℕ) → k < n → getD stripe (getD places k 0 + t) 0 ≡ byteAt s stripe (h .cell k) t
+    byte-of stripe t k lk = ap (λ (x : ℕ). getD stripe (x + t) 0) (h .at k lk) ∙ sym (byte-there s w stripe (h .cell k) t (h .there k lk))
 
-    pub found : Found s q (record { to = l .to * s .cell; count = l .count }) places
+    pub found : Found s q (record { to = to; count = n }) places
     found = record {
       to = to-is;
-      few = omega (arith, h .short .few);
-      long = at .long;
+      few = omega (arith, h .few);
+      long = h .long;
       ends = subst (λ (x : ℕ). x + s .cell ≤ stripeLength s) (sym to-is) (place-inside s w (parityCell s q) (ordered s w .inside q lq) (parity-there s w q lq));
-      inside = λ k lk. subst (λ (x : ℕ). x + s .cell ≤ stripeLength s) (sym (at-place k lk)) (place-inside s w (h .cell k) (h .inside k lk) (h .there k lk));
-      apart = λ k lk. subst (λ (x : ℕ). (x + s .cell ≤ l .to * s .cell) ⊎ (l .to * s .cell + s .cell ≤ x)) (sym (at-place k lk))
+      inside = λ k lk. subst (λ (x : ℕ). x + s .cell ≤ stripeLength s) (sym (h .at k lk)) (place-inside s w (h .cell k) (h .inside k lk) (h .there k lk));
+      apart = λ k lk. subst (λ (x : ℕ). (x + s .cell ≤ to) ⊎ (to + s .cell ≤ x)) (sym (h .at k lk))
           (subst (λ (y : ℕ). (place s (h .cell k) + s .cell ≤ y) ⊎ (y + s .cell ≤ place s (h .cell k))) (sym to-is) (place-apart s w (h .cell k) (parityCell s q) (h .there k lk) (parity-there s w q lq) (parity-apart k lk)));
       sum = λ stripe t.
-          xors-same (l .count) (λ k. getD stripe (getD places k 0 + t) 0) (λ k. byteAt s stripe (h .cell k) t) (byte-of stripe t)
+          xors-same n (λ k. getD stripe (getD places k 0 + t) 0) (λ k. byteAt s stripe (h .cell k) t) (byte-of stripe t)
           ∙ sym (h .sum (λ c. byteAt s stripe c t) (λ c none. byte-missing s w stripe c t none));
     }
 

@@ -1,104 +1,260 @@
--- The lines of H-Code and X-Code, of which every column exists: they walk the tracks of their equations.
+-- The lines of H-Code and X-Code, of which every column exists.
 use mathlib.Core.Path.{_≡_, refl, sym, ap, ap₂, _∙_}
 use mathlib.Core.Logic.{_≢_}
-use Prim.Native.Nat.{ℕ, _+_, _-_, _*_, _%_, _≤_, _<_}
-use native.Mathlib.Nat.{mul-le-mul, one-mul}
+use mathlib.Core.Bool.{true, cond, not, _&&_}
+use Prim.Native.Nat.{ℕ, suc, _+_, _-_, _*_, _%_, _≤_, _<_}
+use native.Mathlib.Nat.{mod-lt, mod-eq-of-lt, mod-add-mod, mul-le-mul, zero-mul}
 use native.Mathlib.Omega.{arith}
+use lib.Dec.{eqb, ltb}
+use borrow.Author.Tests.{lt-ltb, le-ltb, eq-eqb, ne-eqb, ltb-true, eqb-true, eqb-false, not-true}
+use Rattle.xor.proofs.Cases.{by-less, and-left, and-right, and-both}
 use Rattle.codes.specs.declared.Shape.{Shape}
 use Rattle.codes.specs.declared.Line.{Line}
-use Rattle.codes.specs.Shape.{rows, equations, cellNumber, missing, WellFormed}
-use Rattle.codes.specs.Geometry.{callersCell}
-use Rattle.codes.specs.Encoded.{parityCell}
-use Rattle.codes.specs.Lines.{Walks}
-use Rattle.codes.proofs.Shapes.{low, high, missing-other}
-use Rattle.codes.proofs.Lines.{fallen, flat, hcode-rows, hcode-n, hcode-row, hcode-anti, xcode-rows, xcode-n, xcode-first, xcode-second}
-use Rattle.codes.proofs.Positions.{hcode-first, hcode-second, xcode-first-at, xcode-second-at}
-use Rattle.codes.proofs.Geometry.{lies-all, callers-at}
-use Rattle.codes.proofs.Stepping.{track-walks}
+use Rattle.codes.specs.Shape.{rows, columns, disks, equations, cellNumber, missing, WellFormed}
+use Rattle.codes.specs.Geometry.{columnOf, callersCell}
+use Rattle.codes.specs.Equations.{Equation, hcodeRow, hcodeAntiDiagonal, xcodeFirst, xcodeSecond, equation}
+use Rattle.codes.specs.Encoded.{parityCell, sumsCell}
+use Rattle.codes.specs.Lines.{lineCount, lineCell, Walks}
+use Rattle.codes.proofs.Shapes.{low, high, missing-other, disks-is}
+use Rattle.codes.proofs.Residues.{wrapped}
+use Rattle.codes.proofs.Lines.{hcode-rows, hcode-columns, hcode-n, hcode-row-is, hcode-anti-is, xcode-rows, xcode-columns, xcode-n, xcode-first-is, xcode-second-is}
+use Rattle.codes.proofs.Positions.{sums-of, hcode-first, hcode-second, xcode-first-at, xcode-second-at}
+use Rattle.codes.proofs.Geometry.{lies-all, column-all, callers-at}
+use Rattle.codes.proofs.Stepping.{walk-is, count-plain, cell-walked, Goes, goes-walks}
+
+-- a row counted from the last but two
+lifted : (p c k : ℕ) → k < p - 2 → c + 1 + k ≡ p + c - (p - 3 - k) - 2
+lifted p c k l = omega arith
+
+one-up : (p k step : ℕ) → suc k < p - 2 → step ≡ p - 1 → p - 3 - suc k + p ≡ p - 3 - k + step
+one-up p k step l e = omega arith
+
+lowered : (p k : ℕ) → k < p - 2 → p - 3 - (p - 3 - k) ≡ k
+lowered p k l = omega arith
 
 module _ (s : Shape) (w : WellFormed s) where
-  -- as many cells as so many columns have, and one more
+  -- as many cells as so many columns have
   pub small-columns : (a n : ℕ) → a ≤ 32 → n ≤ s .p → a * n ≤ 992
   small-columns a n la ln = mul-le-mul la (let few : n ≤ 31 = omega (arith, high s w) in few)
 
   module _ (other : s .code ≢ 1) where
-    -- the place of a parity cell, where every column exists
-    whole-at : (q i j n : ℕ) → n ≡ rows s → i < rows s → parityCell s q ≡ cellNumber s i j → j * n + i ≡ callersCell s (parityCell s q)
+    full : missing s ≡ 0
+    full = missing-other s w other
+
+    -- the number of a parity cell
+    pub whole-at : (q i j n : ℕ) → n ≡ rows s → i < rows s → parityCell s q ≡ cellNumber s i j → j * n + i ≡ callersCell s (parityCell s q)
     unfolding cellNumber
     whole-at q i j n height li at =
-        ap₂ (λ (x y : ℕ). x * y + i) (sym (lies-all s (missing-other s w other) j)) height ∙ sym (callers-at s w i j li) ∙ ap (callersCell s) (sym at)
+        ap₂ (λ (x y : ℕ). x * y + i) (sym (lies-all s full j)) height ∙ sym (callers-at s w i j li) ∙ ap (callersCell s) (sym at)
+
+    -- a line that is in row i k of column u k at cell k, once in each cell that passes the test, walks its equation
+    module _ (q : ℕ) (e : Equation) (is : equation s q ≡ e) (l : Line) (extra : l .extra ≡ 0) (u i : ℕ → ℕ) where
+      pub whole-walks : ((k : ℕ) → k < l .count → (i k < rows s) × (u k < columns s) × (e .sums (i k) (u k) ≡ true))
+          → ((x y : ℕ) → x < rows s → y < columns s → e .sums x y ≡ true → (k : ℕ) × (k < l .count) × (i k ≡ x) × (u k ≡ y))
+          → ((j k : ℕ) → j < l .count → k < l .count → i j ≡ i k → u j ≡ u k → j ≡ k)
+          → l .first ≡ u 0 * rows s + i 0 → ((k : ℕ) → suc k < l .count → suc k ≡ l .turn → l .second ≡ u (suc k) * rows s + i (suc k))
+          → ((k : ℕ) → suc k < l .count → suc k ≢ l .turn → (u (suc k) ≡ u k + 1) × (i (suc k) + rows s ≡ i k + l .step))
+          → 1 ≤ l .count → l .count ≤ 30 → l .step ≤ 1024 → l .second ≤ 1024 → Walks s q l
+      whole-walks on every once first turned next some few step second =
+          goes-walks s w q l u i
+          (record {
+            in-row = λ k lk. on k (omega (arith, many)) .0;
+            in-place = λ k lk. omega (arith, on k (omega (arith, many)) .1, disks-is s w, full);
+            passes = λ k lk. let here = on k (omega (arith, many)) in ap (λ (j : ℕ). sumsCell s q (cellNumber s (i k) j)) (column-all s full (u k)) ∙ sums-of s w q e is (i k) (u k) (here .0) ∙ here .2;
+            all = λ x y lx ly here p. let found = every x y lx ly (sym (sums-of s w q e is x y lx) ∙ p) in (found .0, omega (arith, many, found .1), found .2, found .3 ∙ sym (lies-all s full y));
+            once = λ j k lj lk. once j k (omega (arith, many)) (omega (arith, many));
+            at = λ k lk. let lk′ : k < l .count = omega (arith, many) in cell-walked l k lk′ ∙ walk-is l (rows s) u i first turned next k lk′;
+          })
+          some few step second
+        where
+          many : lineCount l ≡ l .count
+          many = count-plain l extra
+
+  -- ---- H-Code: column k, or k + 1 past column r
+
+  skip : ℕ → ℕ → ℕ
+  skip r k = cond (ltb k (r + 1)) k (k + 1)
+
+  before : (r k : ℕ) → k < r + 1 → skip r k ≡ k
+  unfolding skip
+  before r k a = rw (lt-ltb k (r + 1) a) refl
+
+  behind : (r k : ℕ) → r + 1 ≤ k → skip r k ≡ k + 1
+  unfolding skip
+  behind r k a = rw (le-ltb k (r + 1) a) refl
+
+  -- it never is column r + 1, and each other one is met once
+  misses : (r k : ℕ) → skip r k ≢ r + 1
+  misses r k e = by-less k (r + 1) (λ a. omega (arith, before r k a)) (λ a. omega (arith, behind r k a))
+
+  meets : (r y : ℕ) → y ≢ r + 1 → (k : ℕ) × (k ≤ y) × (y ≤ k + 1) × (skip r k ≡ y)
+  meets r y other = by-less y (r + 1) (λ a. (y, omega arith, omega arith, before r y a)) (λ a. (y - 1, omega arith, omega arith, behind r (y - 1) (omega arith) ∙ (let z : y - 1 + 1 ≡ y = omega arith in z)))
+
+  alone : (r j k : ℕ) → skip r j ≡ skip r k → j ≡ k
+  alone r j k e =
+      by-less j (r + 1)
+      (λ a. by-less k (r + 1) (λ b. sym (before r j a) ∙ e ∙ before r k b) (λ b. absurd (omega (arith, before r j a, behind r k b))))
+      (λ a. by-less k (r + 1) (λ b. absurd (omega (arith, behind r j a, before r k b))) (λ b. omega (arith, behind r j a, behind r k b)))
+
+  onward : (r k : ℕ) → suc k ≢ r + 1 → skip r (suc k) ≡ skip r k + 1
+  onward r k e = by-less (suc k) (r + 1) (λ a. omega (arith, before r (suc k) a, before r k (omega arith))) (λ a. omega (arith, behind r (suc k) a, behind r k (omega arith)))
+
+  below-p : (r k : ℕ) → k < s .p - 1 → skip r k < s .p
+  below-p r k lk = by-less k (r + 1) (λ a. omega (arith, before r k a)) (λ a. omega (arith, behind r k a))
 
   module _ (is-hcode : s .code ≡ 2) where
-    not-rdp : s .code ≢ 1
+    pub not-rdp : s .code ≢ 1
     not-rdp e = omega arith
 
-    module _ (l : Line) (turn : l .turn ≡ 0) (second : l .second ≡ 0) (around : l .around ≡ s .p * (s .p - 1)) (count : l .count ≡ s .p - 1) where
-      round : l .around ≡ s .p * rows s
-      round = around ∙ ap (λ (n : ℕ). s .p * n) (hcode-rows s w is-hcode)
+    tall : s .p - 1 ≡ rows s
+    tall = hcode-rows s w is-hcode
 
-      pub hcode-row-walks : (q column : ℕ) → q < s .p - 1 → column ≡ (q + 2) % s .p → l .to ≡ s .p * (s .p - 1) + q → l .first ≡ column * (s .p - 1) + q → l .step ≡ s .p - 1 → Walks s q l
-      hcode-row-walks q column lq starts to first step =
-          track-walks s w q l (missing-other s w not-rdp) (flat (s .p - 1) q column) (hcode-row s w is-hcode q column lq starts) count
-          (first ∙ ap (λ (n : ℕ). column * n + q) (hcode-rows s w is-hcode)) (step ∙ along) round turn second
-          (to ∙ whole-at not-rdp q q (s .p) (s .p - 1) (hcode-rows s w is-hcode) (omega (arith, hcode-rows s w is-hcode)) (hcode-first s w is-hcode q lq)) (omega arith)
+    pub hcode-row-walks : (q : ℕ) → q < s .p - 1 → (l : Line) → l .count ≡ s .p - 1 → l .first ≡ q → l .step ≡ s .p - 1 → l .turn ≡ q + 1 → l .second ≡ (q + 2) * (s .p - 1) + q → l .extra ≡ 0 → Walks s q l
+    hcode-row-walks q lq l count first step turn second extra =
+        whole-walks not-rdp q (hcodeRow (s .p) q) (hcode-row-is s w is-hcode q lq) l extra (skip q) (λ k. q)
+        (λ k lk. (
+          omega (arith, tall),
+          omega (arith, below-p q k (omega arith), hcode-columns s w is-hcode),
+          and-both (eq-eqb q q refl) (and-both (lt-ltb (skip q k) (s .p) (below-p q k (omega arith))) (ap not (ne-eqb (skip q k) (q + 1) (misses q k)))),
+        ))
+        (λ x y lx ly p.
+        let rest = and-right (eqb x q) (ltb y (s .p) && not (eqb y (q + 1))) p in
+        let ly′ : y < s .p = ltb-true y (s .p) (and-left (ltb y (s .p)) (not (eqb y (q + 1))) rest) in
+        let other : y ≢ q + 1 = eqb-false y (q + 1) (not-true (eqb y (q + 1)) (and-right (ltb y (s .p)) (not (eqb y (q + 1))) rest)) in
+        let found = meets q y other in
+        (found .0, ends q (found .0) (found .1) (found .3) ly′ lq count, sym (eqb-true x q (and-left (eqb x q) (ltb y (s .p) && not (eqb y (q + 1))) p)), found .3))
+        (λ j k lj lk a b. alone q j k b)
+        (first ∙ (let z : q ≡ 0 * rows s + q = omega (arith, zero-mul (rows s)) in z) ∙ ap (λ (x : ℕ). x * rows s + q) (sym (before q 0 (omega arith))))
+        (λ k lk e. second ∙ ap₂ (λ (x y : ℕ). x * y + q) (let z : q + 2 ≡ suc k + 1 = omega arith in z) tall ∙ ap (λ (x : ℕ). x * rows s + q) (sym (behind q (suc k) (omega arith))))
+        (λ k lk e. (onward q k (λ z. e (omega arith)), omega (arith, tall)))
+        (omega (arith, low s w)) (omega (arith, high s w)) (omega (arith, high s w)) (omega (arith, small-columns (q + 2) (s .p - 1) (omega (arith, high s w)) (omega arith), high s w))
+      where
+        ends : (r k : ℕ) {y : ℕ} → k ≤ y → skip r k ≡ y → y < s .p → r < s .p - 1 → l .count ≡ s .p - 1 → k < l .count
+        ends r k ky e ly lr c = by-less k (r + 1) (λ a. omega (arith, before r k a)) (λ a. omega (arith, behind r k a))
+
+    -- row of cell k of anti-diagonal r
+    row : ℕ → ℕ → ℕ
+    row r k = cond (ltb k (r + 1)) (s .p - 1 - 1 - r + k) (k - (r + 1))
+
+    row-before : (r k : ℕ) → k < r + 1 → row r k ≡ s .p - 1 - 1 - r + k
+    unfolding row
+    row-before r k a = rw (lt-ltb k (r + 1) a) refl
+
+    row-behind : (r k : ℕ) → r + 1 ≤ k → row r k ≡ k - (r + 1)
+    unfolding row
+    row-behind r k a = rw (le-ltb k (r + 1) a) refl
+
+    module _ (r : ℕ) (lr : r < s .p - 1) where
+      -- the row in which the anti-diagonal meets a column
+      meets-in : (k : ℕ) → k < s .p - 1 → row r k ≡ (s .p - 2 - r + skip r k) % s .p
+      meets-in k lk =
+          by-less k (r + 1)
+          (λ a. row-before r k a ∙ (let z : s .p - 1 - 1 - r + k ≡ s .p - 2 - r + k = omega arith in z) ∙ sym (ap (λ (x : ℕ). (s .p - 2 - r + x) % s .p) (before r k a) ∙ mod-eq-of-lt (omega arith)))
+          (λ a. row-behind r k a ∙ (let z : k - (r + 1) ≡ s .p - 2 - r + (k + 1) - s .p = omega arith in z)
+          ∙ wrapped (s .p) (s .p - 2 - r + (k + 1)) (omega arith) (omega arith) ∙ ap (λ (x : ℕ). (s .p - 2 - r + x) % s .p) (sym (behind r k a)))
+
+      row-low : (k : ℕ) → k < s .p - 1 → row r k < s .p - 1
+      row-low k lk = by-less k (r + 1) (λ a. omega (arith, row-before r k a)) (λ a. omega (arith, row-behind r k a))
+
+      pub hcode-anti-walks : (q : ℕ) → equation s q ≡ hcodeAntiDiagonal (s .p) r → (l : Line) → l .count ≡ s .p - 1 → l .first ≡ s .p - 1 - 1 - r → l .step ≡ s .p - 1 + 1 → l .turn ≡ r + 1
+          → l .second ≡ (r + 2) * (s .p - 1) → l .extra ≡ 0 → Walks s q l
+      hcode-anti-walks q is l count first step turn second extra =
+          whole-walks not-rdp q (hcodeAntiDiagonal (s .p) r) is l extra (skip r) (row r)
+          (λ k lk. (
+            omega (arith, row-low k (omega arith), tall),
+            omega (arith, below-p r k (omega arith), hcode-columns s w is-hcode),
+            and-both (lt-ltb (skip r k) (s .p) (below-p r k (omega arith))) (and-both (ap not (ne-eqb (skip r k) (r + 1) (misses r k))) (eq-eqb (row r k) ((s .p - 2 - r + skip r k) % s .p) (meets-in k (omega arith)))),
+          ))
+          (λ x y lx ly p.
+          let rest = and-right (ltb y (s .p)) (not (eqb y (r + 1)) && eqb x ((s .p - 2 - r + y) % s .p)) p in
+          let ly′ : y < s .p = ltb-true y (s .p) (and-left (ltb y (s .p)) (not (eqb y (r + 1)) && eqb x ((s .p - 2 - r + y) % s .p)) p) in
+          let other : y ≢ r + 1 = eqb-false y (r + 1) (not-true (eqb y (r + 1)) (and-left (not (eqb y (r + 1))) (eqb x ((s .p - 2 - r + y) % s .p)) rest)) in
+          let found = meets r y other in
+          let lk : found .0 < s .p - 1 = ends (found .0) (found .1) (found .3) ly′ in
+          (found .0, omega arith, meets-in (found .0) lk ∙ ap (λ (j : ℕ). (s .p - 2 - r + j) % s .p) (found .3) ∙ sym (eqb-true x ((s .p - 2 - r + y) % s .p) (and-right (not (eqb y (r + 1))) (eqb x ((s .p - 2 - r + y) % s .p)) rest)), found .3))
+          (λ j k lj lk a b. alone r j k b)
+          (first ∙ (let z : s .p - 1 - 1 - r ≡ 0 * rows s + (s .p - 1 - 1 - r + 0) = omega (arith, zero-mul (rows s)) in z) ∙ sym (ap₂ (λ (x y : ℕ). x * rows s + y) (before r 0 (omega arith)) (row-before r 0 (omega arith))))
+          (λ k lk e. second ∙ (let z : (r + 2) * (s .p - 1) ≡ (r + 2) * (s .p - 1) + 0 = omega arith in z) ∙ ap₂ (λ (x y : ℕ). x * y + 0) (let z : r + 2 ≡ suc k + 1 = omega arith in z) tall
+          ∙ sym (ap₂ (λ (x y : ℕ). x * rows s + y) (behind r (suc k) (omega arith)) (row-behind r (suc k) (omega arith) ∙ (let z : suc k - (r + 1) ≡ 0 = omega arith in z))))
+          (λ k lk e. (
+            onward r k (λ z. e (omega arith)),
+            by-less (suc k) (r + 1)
+                (λ a. omega (arith, row-before r (suc k) a, row-before r k (omega arith), tall))
+                (λ a. omega (arith, row-behind r (suc k) a, row-behind r k (omega arith), tall)),
+          ))
+          (omega (arith, low s w)) (omega (arith, high s w)) (omega (arith, high s w)) (omega (arith, small-columns (r + 2) (s .p - 1) (omega (arith, high s w)) (omega arith)))
         where
-          along : s .p - 1 ≡ 1 * rows s + 0
-          along = omega (arith, hcode-rows s w is-hcode, one-mul (rows s))
+          ends : (k : ℕ) {y : ℕ} → k ≤ y → skip r k ≡ y → y < s .p → k < s .p - 1
+          ends k ky e ly = by-less k (r + 1) (λ a. omega (arith, before r k a)) (λ a. omega (arith, behind r k a))
 
-      pub hcode-anti-walks : (q column : ℕ) → s .p - 1 ≤ q → q < equations s → column ≡ (q - (s .p - 1) + 2) % s .p → l .to ≡ (q - (s .p - 1) + 1) * (s .p - 1) + (q - (s .p - 1))
-          → l .first ≡ column * (s .p - 1) → l .step ≡ s .p - 1 + 1 → Walks s q l
-      hcode-anti-walks q column lo hi starts to first step =
-          track-walks s w q l (missing-other s w not-rdp) (fallen (s .p - 1) column 1) (hcode-anti s w is-hcode q column lo hi starts) count
-          (first ∙ down) (step ∙ along) round turn second
-          (to ∙ whole-at not-rdp q r (r + 1) (s .p - 1) (hcode-rows s w is-hcode) (omega (arith, hcode-rows s w is-hcode, low-r)) (ap (parityCell s) (sym whole) ∙ hcode-second s w is-hcode r low-r)) (omega arith)
-        where
-          r : ℕ
-          r = q - (s .p - 1)
+  below-mod : (x : ℕ) → x % s .p < s .p
+  below-mod x = mod-lt x (omega (arith, low s w))
 
-          low-r : r < s .p - 1
-          low-r = omega (arith, hcode-n s w is-hcode)
+  -- ---- X-Code: columns from one on, round after the last
 
-          whole : s .p - 1 + r ≡ q
-          whole = omega arith
+  around : ℕ → ℕ → ℕ
+  around c k = cond (ltb k (s .p - c)) (c + k) (k - (s .p - c))
 
-          down : column * (s .p - 1) ≡ column * rows s + 0
-          down = ap (λ (n : ℕ). column * n) (hcode-rows s w is-hcode) ∙ (let none : column * rows s ≡ column * rows s + 0 = omega arith in none)
+  near : (c k : ℕ) → k < s .p - c → around c k ≡ c + k
+  unfolding around
+  near c k a = rw (lt-ltb k (s .p - c) a) refl
 
-          along : s .p - 1 + 1 ≡ 1 * rows s + 1
-          along = omega (arith, hcode-rows s w is-hcode, one-mul (rows s))
+  far : (c k : ℕ) → s .p - c ≤ k → around c k ≡ k - (s .p - c)
+  unfolding around
+  far c k a = rw (le-ltb k (s .p - c) a) refl
+
+  around-is : (c k : ℕ) → c < s .p → k < s .p → around c k ≡ (c + k) % s .p
+  around-is c k lc lk =
+      by-less k (s .p - c) (λ a. near c k a ∙ sym (mod-eq-of-lt (omega arith)))
+      (λ a. far c k a ∙ (let z : k - (s .p - c) ≡ c + k - s .p = omega arith in z) ∙ wrapped (s .p) (c + k) (omega arith) (omega arith))
 
   module _ (is-xcode : s .code ≡ 3) where
-    not-rdp′ : s .code ≢ 1
+    pub not-rdp′ : s .code ≢ 1
     not-rdp′ e = omega arith
 
-    module _ (l : Line) (turn : l .turn ≡ 0) (second : l .second ≡ 0) (around : l .around ≡ s .p * s .p) (count : l .count ≡ s .p - 2) where
-      round′ : l .around ≡ s .p * rows s
-      round′ = around ∙ ap (λ (n : ℕ). s .p * n) (xcode-rows s w is-xcode)
+    square : s .p ≡ rows s
+    square = xcode-rows s w is-xcode
 
-      down′ : (column : ℕ) → column * s .p ≡ column * rows s + 0
-      down′ column = ap (λ (n : ℕ). column * n) (xcode-rows s w is-xcode) ∙ (let none : column * rows s ≡ column * rows s + 0 = omega arith in none)
+    -- a family whose line is in row i k at cell k, which is one row of each below p - 2
+    module _ (q row c : ℕ) (at : ℕ → ℕ) (is : equation s q ≡ record { row = row; column = c; sums = λ x y. ltb x (s .p - 2) && eqb y (at x) }) (l : Line) (count : l .count ≡ s .p - 2)
+        (column : ℕ) (lc : column < s .p) (turn : l .turn ≡ s .p - column) (extra : l .extra ≡ 0) (i : ℕ → ℕ) (low-i : (k : ℕ) → k < s .p - 2 → i k < s .p - 2) (back : (k : ℕ) → k < s .p - 2 → i (i k) ≡ k)
+        (goes : (k : ℕ) → k < s .p - 2 → (column + k) % s .p ≡ at (i k)) where
+      family : l .first ≡ column * s .p + i 0 → ((k : ℕ) → suc k < s .p - 2 → suc k ≡ l .turn → l .second ≡ i (suc k)) → ((k : ℕ) → suc k < s .p - 2 → i (suc k) + s .p ≡ i k + l .step)
+          → l .step ≤ 1024 → l .second ≤ 1024 → Walks s q l
+      family first second next step small =
+          whole-walks not-rdp′ q (record { row = row; column = c; sums = λ x y. ltb x (s .p - 2) && eqb y (at x) }) is l extra (around column) i
+          (λ k lk. let lk′ : k < s .p - 2 = omega arith in
+          (omega (arith, low-i k lk′, square), omega (arith, around-is column k lc (omega arith), below-mod (column + k), xcode-columns s w is-xcode), and-both (lt-ltb (i k) (s .p - 2) (low-i k lk′)) (eq-eqb (around column k) (at (i k)) (around-is column k lc (omega arith) ∙ goes k lk′))))
+          (λ x y lx ly p.
+          let lx′ : x < s .p - 2 = ltb-true x (s .p - 2) (and-left (ltb x (s .p - 2)) (eqb y (at x)) p) in
+          (i x, omega (arith, low-i x lx′), back x lx′, around-is column (i x) lc (omega (arith, low-i x lx′)) ∙ goes (i x) (low-i x lx′) ∙ ap at (back x lx′) ∙ sym (eqb-true y (at x) (and-right (ltb x (s .p - 2)) (eqb y (at x)) p))))
+          (λ j k lj lk a b. sym (back j (omega arith)) ∙ ap i a ∙ back k (omega arith))
+          (first ∙ ap₂ (λ (x y : ℕ). x * y + i 0) (sym (near column 0 (omega arith) ∙ (let z : column + 0 ≡ column = omega arith in z))) square)
+          (λ k lk e. second k (omega arith) e ∙ (let z : i (suc k) ≡ 0 * rows s + i (suc k) = omega (arith, zero-mul (rows s)) in z) ∙ ap (λ (x : ℕ). x * rows s + i (suc k)) (sym (far column (suc k) (omega arith) ∙ (let z : suc k - (s .p - column) ≡ 0 = omega arith in z))))
+          (λ k lk e. (by-less (suc k) (s .p - column) (λ a. omega (arith, near column (suc k) a, near column k (omega arith))) (λ a. omega (arith, far column (suc k) a, far column k (omega arith))), omega (arith, next k (omega arith), square)))
+          (omega (arith, low s w)) (omega (arith, high s w)) step small
 
-      pub xcode-first-walks : (q column : ℕ) → q < s .p → column ≡ (q + 2) % s .p → l .to ≡ q * s .p + (s .p - 2) → l .first ≡ column * s .p → l .step ≡ s .p + 1 → Walks s q l
-      xcode-first-walks q column lq starts to first step =
-          track-walks s w q l (missing-other s w not-rdp′) (fallen (s .p - 2) column 1) (xcode-first s w is-xcode q column lq starts) count
-          (first ∙ down′ column) (step ∙ along) round′ turn second
-          (to ∙ whole-at not-rdp′ q (s .p - 2) q (s .p) (xcode-rows s w is-xcode) (omega (arith, xcode-rows s w is-xcode)) (xcode-first-at s w is-xcode q lq)) (omega arith)
-        where
-          along : s .p + 1 ≡ 1 * rows s + 1
-          along = omega (arith, xcode-rows s w is-xcode, one-mul (rows s))
+    pub xcode-first-walks : (q column : ℕ) → q < s .p → column ≡ (q + 2) % s .p → (l : Line) → l .count ≡ s .p - 2 → l .first ≡ column * s .p → l .step ≡ s .p + 1 → l .turn ≡ s .p - column → l .second ≡ s .p - column → l .extra ≡ 0 → Walks s q l
+    xcode-first-walks q column lq starts l count first step turn second extra =
+        family q (s .p - 2) q (λ k. (q + k + 2) % s .p) (xcode-first-is s w is-xcode q lq) l count column below turn extra (λ k. k) (λ k lk. lk) (λ k lk. refl)
+        (λ k lk. ap (λ (x : ℕ). (x + k) % s .p) starts ∙ mod-add-mod (q + 2) (s .p) k ∙ ap (λ (x : ℕ). x % s .p) (let z : q + 2 + k ≡ q + k + 2 = omega arith in z))
+        (first ∙ (let z : column * s .p ≡ column * s .p + 0 = omega arith in z)) (λ k lk e. second ∙ sym turn ∙ sym e) (λ k lk. omega arith) (omega (arith, high s w)) (omega (arith, high s w))
+      where
+        below : column < s .p
+        below = omega (arith, starts, below-mod (q + 2))
 
-      pub xcode-second-walks : (q column : ℕ) → s .p ≤ q → q < equations s → column ≡ (q - s .p + (s .p - 2)) % s .p → l .to ≡ (q - s .p) * s .p + (s .p - 1) → l .first ≡ column * s .p
-          → l .step ≡ (s .p - 1) * s .p + 1 → Walks s q l
-      xcode-second-walks q column lo hi starts to first step =
-          track-walks s w q l (missing-other s w not-rdp′) (fallen (s .p - 2) column (s .p - 1)) (xcode-second s w is-xcode q column lo hi starts) count
-          (first ∙ down′ column) (step ∙ ap (λ (n : ℕ). (s .p - 1) * n + 1) (xcode-rows s w is-xcode)) round′ turn second
-          (to ∙ whole-at not-rdp′ q (s .p - 1) c (s .p) (xcode-rows s w is-xcode) (omega (arith, xcode-rows s w is-xcode, low s w)) (ap (parityCell s) (sym whole) ∙ xcode-second-at s w is-xcode c low-c)) (omega arith)
-        where
-          c : ℕ
-          c = q - s .p
+    pub xcode-second-walks : (q column : ℕ) → s .p ≤ q → q < equations s → column ≡ (q - s .p + 1) % s .p → (l : Line) → l .count ≡ s .p - 2 → l .first ≡ column * s .p + (s .p - 3) → l .step ≡ s .p - 1
+        → l .turn ≡ s .p - column → l .second ≡ column - 3 → l .extra ≡ 0 → Walks s q l
+    xcode-second-walks q column lo hi starts l count first step turn second extra =
+        family q (s .p - 1) (q - s .p) (λ k. (s .p + (q - s .p) - k - 2) % s .p) (xcode-second-is s w is-xcode q lo) l count column below turn extra (λ k. s .p - 3 - k) (λ k lk. omega (arith, low s w)) (λ k lk. twice k lk)
+        (λ k lk. ap (λ (x : ℕ). (x + k) % s .p) starts ∙ mod-add-mod (q - s .p + 1) (s .p) k ∙ ap (λ (x : ℕ). x % s .p) (up k lk))
+        (first ∙ ap (λ (x : ℕ). column * s .p + x) (let z : s .p - 3 ≡ s .p - 3 - 0 = omega arith in z)) (λ k lk e. second ∙ (let z : column - 3 ≡ s .p - 3 - suc k = omega (arith, turn) in z)) (λ k lk. one-up (s .p) k (l .step) lk step) (omega (arith, high s w)) (omega (arith, high s w))
+      where
+        below : column < s .p
+        below = omega (arith, starts, below-mod (q - s .p + 1))
 
-          low-c : c < s .p
-          low-c = omega (arith, xcode-n s w is-xcode)
+        twice : (k : ℕ) → k < s .p - 2 → s .p - 3 - (s .p - 3 - k) ≡ k
+        twice k lk = lowered (s .p) k lk
 
-          whole : s .p + c ≡ q
-          whole = omega arith
+        up : (k : ℕ) → k < s .p - 2 → q - s .p + 1 + k ≡ s .p + (q - s .p) - (s .p - 3 - k) - 2
+        up k lk = lifted (s .p) (q - s .p) k lk

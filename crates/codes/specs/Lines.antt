@@ -3,8 +3,8 @@ use mathlib.Core.Path.{_≡_}
 use mathlib.Core.Logic.{_⊎_}
 use mathlib.Core.List.{List}
 use mathlib.Core.Bool.{true, false, cond}
-use Prim.Native.Nat.{ℕ, zero, suc, _+_, _-_, _*_, _≤_, _<_}
-use lib.Dec.{eqb, leb}
+use Prim.Native.Nat.{ℕ, zero, suc, _+_, _*_, _≤_, _<_}
+use lib.Dec.{eqb, ltb}
 use lib.ListN.{length, getD}
 use Rattle.xor.specs.Xor.{xors}
 use Rattle.codes.specs.declared.Shape.{Shape}
@@ -14,39 +14,52 @@ use Rattle.codes.specs.Shape.{cells, stripeLength}
 use Rattle.codes.specs.Geometry.{cellThere, callersCell, place}
 use Rattle.codes.specs.Encoded.{parityCell, sumsCell, byteAt, sumOver, total, parityByte}
 
--- n, or what it is past a where it is not below a
-unfoldable pub wrap : ℕ → ℕ → ℕ
-wrap a n = cond (leb a n) (n - a) n
-
--- cell k of a line, by its number as cells lie: each is `step` cells on from the one before, round after `around` of them; cell `turn` starts anew
+-- cell k of a line, by its number as cells lie: each is `step` cells on from the one before, but cell `turn`, which is `second`
 unfoldable pub walked : Line → ℕ → ℕ
 walked l zero = l .first
-walked l (suc k) = cond (eqb (suc k) (l .turn)) (l .second) (wrap (l .around) (walked l k + l .step))
+walked l (suc k) = cond (eqb (suc k) (l .turn)) (l .second) (walked l k + l .step)
 
 -- the line is short, and its cells stay inside a stripe
 pub record Short (l : Line) : Type 0 where
   pub few : l .count ≤ 30
-  pub step : l .step ≤ 1024
-  pub around : l .around ≤ 1024
   pub first : l .first ≤ 1024
+  pub step : l .step ≤ 1024
   pub second : l .second ≤ 1024
+  pub extra : l .extra ≤ 1024
   pub at : (k : ℕ) → k < l .count → walked l k ≤ 1024
 
--- the line has the parity cell of equation q, and goes through the cells that it sums and that exist, once through each
+-- the cells of a line: those that it walks, and behind them the extra one, if there is one
+unfoldable pub lineCount : Line → ℕ
+lineCount l = cond (eqb (l .extra) 0) (l .count) (l .count + 1)
+
+unfoldable pub lineCell : Line → ℕ → ℕ
+lineCell l k = cond (ltb k (l .count)) (walked l k) (l .extra)
+
+-- the line goes through the cells that equation q sums and that exist, once through each
 pub record Walks (s : Shape) (q : ℕ) (l : Line) : Type 0 where
   pub short : Short l
-  pub to : l .to ≡ callersCell s (parityCell s q)
   pub cell : ℕ → ℕ
-  pub inside : (k : ℕ) → k < l .count → cell k < cells s
-  pub there : (k : ℕ) → k < l .count → cellThere s (cell k) ≡ true
-  pub at : (k : ℕ) → k < l .count → walked l k ≡ callersCell s (cell k)
-  pub summed : (k : ℕ) → k < l .count → sumsCell s q (cell k) ≡ true
-  pub sum : (f : ℕ → ℕ) → ((c : ℕ) → cellThere s c ≡ false → f c ≡ 0) → sumOver s q f ≡ xors (l .count) (λ k. f (cell k))
+  pub inside : (k : ℕ) → k < lineCount l → cell k < cells s
+  pub there : (k : ℕ) → k < lineCount l → cellThere s (cell k) ≡ true
+  pub at : (k : ℕ) → k < lineCount l → lineCell l k ≡ callersCell s (cell k)
+  pub summed : (k : ℕ) → k < lineCount l → sumsCell s q (cell k) ≡ true
+  pub sum : (f : ℕ → ℕ) → ((c : ℕ) → cellThere s c ≡ false → f c ≡ 0) → sumOver s q f ≡ xors (lineCount l) (λ k. f (cell k))
 
--- the places begin with those of the cells of a line
+-- the places begin with those of the cells that a line walks
 pub record Placed (s : Shape) (l : Line) (places : List ℕ) : Type 0 where
   pub long : length places ≡ 32
   pub at : (k : ℕ) → k < l .count → getD places k 0 ≡ walked l k * s .cell
+
+-- the places begin with those of n cells, which are the cells that equation q sums and that exist
+pub record Summing (s : Shape) (q n : ℕ) (places : List ℕ) : Type 0 where
+  pub few : n ≤ 31
+  pub long : length places ≡ 32
+  pub cell : ℕ → ℕ
+  pub inside : (k : ℕ) → k < n → cell k < cells s
+  pub there : (k : ℕ) → k < n → cellThere s (cell k) ≡ true
+  pub at : (k : ℕ) → k < n → getD places k 0 ≡ place s (cell k)
+  pub summed : (k : ℕ) → k < n → sumsCell s q (cell k) ≡ true
+  pub sum : (f : ℕ → ℕ) → ((c : ℕ) → cellThere s c ≡ false → f c ≡ 0) → sumOver s q f ≡ xors n (λ k. f (cell k))
 
 -- r has the place of the parity cell of equation q, and `places` begins with the places of the cells that it sums
 pub record Found (s : Shape) (q : ℕ) (r : Sources) (places : List ℕ) : Type 0 where

@@ -4,38 +4,49 @@ use crate::Shape;
 ghost use mathlib.Core.Path.{_≡_};
 ghost use Prim.Native.Nat.{_<_};
 ghost use Rattle.codes.specs.Shape.{rows, columns, equations, cellNumber, WellFormed};
-ghost use Rattle.codes.specs.Encoded.{isParity};
+ghost use Rattle.codes.specs.Geometry.{callersCell};
+ghost use Rattle.codes.specs.Encoded.{parityCell, isParity};
 ghost use Rattle.codes.specs.Lines.{Walks};
 ghost use Rattle.codes.specs.Depends.{DataCell, DependOn};
 ghost use Rattle.codes.specs.Holders.{HeldBy};
 
-// The line of equation q: rows first, then the anti-diagonals. Both start in column r + 2 and go on, column after column.
+// The number of the parity cell of equation q, as cells lie: (q, p) of a row, and (r, r + 1) of an anti-diagonal.
+pub fn parity(shape: Shape, q: usize) -> usize
+    requires { ⌜ WellFormed shape × (shape .code ≡ 2) × (q < equations shape) ⌝ }
+    ensures { λ r. ⌜ r ≡ callersCell shape (parityCell shape q) ⌝ }
+{
+    let n = shape.p - 1;
+    if q < n {
+        return shape.p * n + q;
+    }
+    let r = q - n;
+    (r + 1) * n + r
+}
+
+// The line of equation q: rows first, then the anti-diagonals. Both go through the first p columns but r + 1, one after the other.
 pub fn line(shape: Shape, q: usize) -> Line
     requires { ⌜ WellFormed shape × (shape .code ≡ 2) × (q < equations shape) ⌝ }
     ensures { λ r. ⌜ Walks shape q r ⌝ }
 {
-    let p = shape.p;
-    let n = p - 1;
+    let n = shape.p - 1;
     if q < n {
         return Line {
-            to: p * n + q,
             count: n,
-            first: crate::turned(q, 2, p) * n + q,
+            first: q,
             step: n,
-            around: p * n,
-            turn: 0,
-            second: 0,
+            turn: q + 1,
+            second: (q + 2) * n + q,
+            extra: 0,
         };
     }
     let r = q - n;
     Line {
-        to: (r + 1) * n + r,
         count: n,
-        first: crate::turned(r, 2, p) * n,
+        first: n - 1 - r,
         step: n + 1,
-        around: p * n,
-        turn: 0,
-        second: 0,
+        turn: r + 1,
+        second: (r + 2) * n,
+        extra: 0,
     }
 }
 

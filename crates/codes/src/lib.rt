@@ -6,10 +6,10 @@ ghost use Prim.Native.Nat.{ℕ, _+_, _%_, _≤_, _<_};
 ghost use lib.ListN.{length, getD};
 ghost use Rattle.xor.specs.Runs.{Says};
 ghost use Rattle.codes.specs.Shape.{listed, rows, columns, cells, equations, cellNumber, missing, wrongData, disks, existing, stripeLength, WellFormed};
-ghost use Rattle.codes.specs.Geometry.{cellAt, place};
+ghost use Rattle.codes.specs.Geometry.{cellAt, callersCell, place};
 ghost use Rattle.codes.specs.Encoded.{parityCell, isParity};
 ghost use Rattle.codes.specs.Refusals.{refusal, codeFaults, sizeFaults, shapeFaults, stripeFaults, writeFaults, cellsFaults, columnsFaults};
-ghost use Rattle.codes.specs.Lines.{wrap, Short, Walks, Placed, Found, Holding};
+ghost use Rattle.codes.specs.Lines.{Short, Walks, Placed, Summing, Found, Holding};
 ghost use Rattle.codes.specs.Depends.{DataCell, DependOn};
 ghost use Rattle.codes.specs.Holders.{HeldBy, Named};
 
@@ -62,16 +62,15 @@ struct Extent {
     equations: usize,
 }
 
-// The cells of an equation, numbered as they lie: its parity cell, and a line through the `count` cells whose XOR that is. The line starts
-// at `first`; each next cell is `step` cells on, less `around` where it would not be below that; cell `turn`, if not 0, is `second`.
+// The cells whose XOR an equation's parity cell is, numbered as they lie: `count` of them from `first` on, each `step` cells past the one before,
+// but cell `turn`, which is `second`; and the cell `extra`, if that is not 0.
 struct Line {
-    to: usize,
     count: usize,
     first: usize,
     step: usize,
-    around: usize,
     turn: usize,
     second: usize,
+    extra: usize,
 }
 
 // Where in the stripe's bytes an equation's parity cell starts, and how many cells it is the XOR of.
@@ -268,18 +267,17 @@ fn line_of(shape: Shape, q: usize) -> Line
 }
 
 // Where cell k of a line starts, given where the one before it does; all numbers but k and turn in bytes.
-fn next_place(at: usize, step: usize, around: usize, k: usize, turn: usize, second: usize) -> usize
+fn next_place(at: usize, step: usize, k: usize, turn: usize, second: usize) -> usize
     requires { ⌜ (at ≤ 4194304) × (step ≤ 4194304) ⌝ }
-    ensures { λ r. ⌜ r ≡ cond (eqb k turn) second (wrap around (at + step)) ⌝ }
+    ensures { λ r. ⌜ r ≡ cond (eqb k turn) second (at + step) ⌝ }
 {
     if k == turn {
         return second;
     }
-    let next = at + step;
-    if around <= next { next - around } else { next }
+    at + step
 }
 
-// Fills in where in the stripe's bytes the cells of a line start.
+// Fills in where in the stripe's bytes the cells of a line start, but for the extra one.
 fn place_cells(shape: Shape, l: Line, places: &mut [usize; PLACES])
     requires { ⌜ WellFormed shape × Short l × (length (now places) ≡ 32) ⌝ }
     ensures { λ _. ⌜ Placed shape l (now (places .exit)) ⌝ }
@@ -288,15 +286,30 @@ fn place_cells(shape: Shape, l: Line, places: &mut [usize; PLACES])
     let count = l.count;
     let turn = l.turn;
     let step = l.step * cell;
-    let around = l.around * cell;
     let second = l.second * cell;
     let mut at = l.first * cell;
     let mut k = 0;
     while k < count {
         places[k] = at;
         k += 1;
-        at = next_place(at, step, around, k, turn, second);
+        at = next_place(at, step, k, turn, second);
     }
+}
+
+// Fills in where the cells start whose XOR the parity cell of equation q is, and answers how many they are.
+fn list_sources(shape: Shape, q: usize, places: &mut [usize; PLACES]) -> usize
+    requires { ⌜ WellFormed shape × (q < equations shape) × (length (now places) ≡ 32) ⌝ }
+    ensures { λ r. ⌜ Summing shape q r (now (places .exit)) ⌝ }
+{
+    let l = line_of(shape, q);
+    let count = l.count;
+    let extra = l.extra;
+    place_cells(shape, l, places);
+    if extra == 0 {
+        return count;
+    }
+    places[count] = extra * shape.cell;
+    count + 1
 }
 
 // Where the parity cell of equation q starts; where the cells start whose XOR it is goes into `places`.
@@ -304,10 +317,8 @@ pub fn sources_of(shape: Shape, q: usize, places: &mut [usize; PLACES]) -> Sourc
     requires { ⌜ WellFormed shape × (q < equations shape) × (length (now places) ≡ 32) ⌝ }
     ensures { λ r. ⌜ Found shape q r (now (places .exit)) ⌝ }
 {
-    let l = line_of(shape, q);
-    let to = l.to * shape.cell;
-    let count = l.count;
-    place_cells(shape, l, places);
+    let to = parity_place(shape, q);
+    let count = list_sources(shape, q, places);
     Sources { to, count }
 }
 
@@ -322,13 +333,26 @@ pub fn cells_of(shape: Shape, q: usize, places: &mut [usize; PLACES]) -> usize
     count + 1
 }
 
+// The number of the parity cell of equation q, as cells lie.
+fn parity_number(shape: Shape, q: usize) -> usize
+    requires { ⌜ WellFormed shape × (q < equations shape) ⌝ }
+    ensures { λ r. ⌜ r ≡ callersCell shape (parityCell shape q) ⌝ }
+{
+    if shape.code == 1 {
+        return rdp::parity(shape, q);
+    }
+    if shape.code == 2 {
+        return hcode::parity(shape, q);
+    }
+    xcode::parity(shape, q)
+}
+
 // Where in the stripe's bytes the parity cell of equation q starts.
 pub fn parity_place(shape: Shape, q: usize) -> usize
     requires { ⌜ WellFormed shape × (q < equations shape) ⌝ }
     ensures { λ r. ⌜ r ≡ place shape (parityCell shape q) ⌝ }
 {
-    let l = line_of(shape, q);
-    l.to * shape.cell
+    parity_number(shape, q) * shape.cell
 }
 
 // Whether the cell in a row and in the column that a caller calls d is a parity cell.

@@ -3,78 +3,72 @@ use crate::Line;
 use crate::Shape;
 ghost use mathlib.Core.Path.{_≡_};
 ghost use mathlib.Core.Bool.{cond};
-ghost use lib.Dec.{eqb};
-ghost use Prim.Native.Nat.{_+_, _-_, _<_};
+ghost use lib.Dec.{eqb, ltb};
+ghost use Prim.Native.Nat.{_+_, _-_, _*_, _≤_, _<_};
 ghost use Rattle.codes.specs.Shape.{rows, columns, equations, cellNumber, WellFormed};
-ghost use Rattle.codes.specs.Encoded.{isParity};
+ghost use Rattle.codes.specs.Geometry.{callersCell};
+ghost use Rattle.codes.specs.Encoded.{parityCell, isParity};
 ghost use Rattle.codes.specs.Lines.{Walks};
 ghost use Rattle.codes.specs.Depends.{DataCell, DependOn};
 ghost use Rattle.codes.specs.Holders.{HeldBy};
 
-// How many cells such a diagonal has in the last m + 1 columns that it meets: in the row parity column none where that would be row p - 1.
-fn met(m: usize, d: usize, n: usize) -> usize
-    requires { ⌜ (m < 32) × (d < 32) ⌝ }
-    ensures { λ r. ⌜ r ≡ cond (eqb (d + 1) n) m (m + 1) ⌝ }
+// The number of the parity cell of equation q, as cells lie: they lie behind the data columns, one after the other.
+pub fn parity(shape: Shape, q: usize) -> usize
+    requires { ⌜ WellFormed shape × (shape .code ≡ 1) × (q < equations shape) ⌝ }
+    ensures { λ r. ⌜ r ≡ callersCell shape (parityCell shape q) ⌝ }
+{
+    crate::data_columns(shape) * (shape.p - 1) + q
+}
+
+// How many data columns diagonal d meets in a row: all m, but not column d + 1, which it would meet in row p - 1.
+fn met(m: usize, d: usize) -> usize
+    requires { ⌜ (1 ≤ m) × (d < 32) ⌝ }
+    ensures { λ r. ⌜ r ≡ cond (ltb (d + 1) m) (m - 1) m ⌝ }
+{
+    if d + 1 < m {
+        return m - 1;
+    }
+    m
+}
+
+// The cell of the row parity column on diagonal d, where n rows and m data columns lie before it; 0 where it would be in row p - 1.
+fn corner(m: usize, n: usize, d: usize) -> usize
+    requires { ⌜ (m < 32) × (n < 32) × (d < 32) ⌝ }
+    ensures { λ r. ⌜ r ≡ cond (eqb (d + 1) n) 0 (m * n + (d + 1)) ⌝ }
 {
     if d + 1 == n {
-        return m;
+        return 0;
     }
-    m + 1
+    m * n + (d + 1)
 }
 
-// The line of a diagonal among m data columns, from the column in which it starts down the columns and the rows, and from column 0 on to the row
-// parity column. Where it meets the columns m to p - 2, it goes on in column m - 1.
-fn diagonal(shape: Shape, d: usize) -> Line
-    requires { ⌜ WellFormed shape × (shape .code ≡ 1) × (d < shape .p - 1) ⌝ }
-    ensures { λ r. ⌜ Walks shape (shape .p - 1 + d) r ⌝ }
-{
-    let n = shape.p - 1;
-    let m = crate::data_columns(shape);
-    let to = (m + 1) * n + d;
-    let step = m * n + 1;
-    let around = (m + 1) * n;
-    let last = (m - 1) * n;
-    if d + 2 <= m {
-        return Line {
-            to,
-            count: m,
-            first: d * n,
-            step,
-            around,
-            turn: d + 2,
-            second: last + (d + 2 + n - m),
-        };
-    }
-    Line {
-        to,
-        count: met(m, d, n),
-        first: last + (d + 1 - m),
-        step,
-        around,
-        turn: 0,
-        second: 0,
-    }
-}
-
-// The line of equation q: rows first, then the diagonals, which hold the row parity column.
+// The line of equation q. A row goes through the data columns. A diagonal goes up the rows, column after column, from row d of column 0 to row 0,
+// then from the last row on; and it holds a cell of the row parity column.
 pub fn line(shape: Shape, q: usize) -> Line
     requires { ⌜ WellFormed shape × (shape .code ≡ 1) × (q < equations shape) ⌝ }
     ensures { λ r. ⌜ Walks shape q r ⌝ }
 {
     let n = shape.p - 1;
+    let m = crate::data_columns(shape);
     if q < n {
-        let m = crate::data_columns(shape);
         return Line {
-            to: m * n + q,
             count: m,
             first: q,
             step: n,
-            around: m * n,
             turn: 0,
             second: 0,
+            extra: 0,
         };
     }
-    diagonal(shape, q - n)
+    let d = q - n;
+    Line {
+        count: met(m, d),
+        first: d,
+        step: n - 1,
+        turn: d + 1,
+        second: (d + 2) * n + (n - 1),
+        extra: corner(m, n, d),
+    }
 }
 
 // Whether a cell is a parity cell: in the last two columns.

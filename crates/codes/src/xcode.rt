@@ -2,39 +2,61 @@
 use crate::Line;
 use crate::Shape;
 ghost use mathlib.Core.Path.{_≡_};
-ghost use Prim.Native.Nat.{_<_};
+ghost use Prim.Native.Nat.{_-_, _<_};
 ghost use Rattle.codes.specs.Shape.{rows, columns, equations, cellNumber, WellFormed};
-ghost use Rattle.codes.specs.Encoded.{isParity};
+ghost use Rattle.codes.specs.Geometry.{callersCell};
+ghost use Rattle.codes.specs.Encoded.{parityCell, isParity};
 ghost use Rattle.codes.specs.Lines.{Walks};
 ghost use Rattle.codes.specs.Depends.{DataCell, DependOn};
 ghost use Rattle.codes.specs.Holders.{HeldBy};
 
-// The line of equation q: the first family, then the second. Both go down the rows, one column on or one back.
+// The number of the parity cell of equation q, as cells lie: (p - 2, q) of the first family, and (p - 1, c) of the second.
+pub fn parity(shape: Shape, q: usize) -> usize
+    requires { ⌜ WellFormed shape × (shape .code ≡ 3) × (q < equations shape) ⌝ }
+    ensures { λ r. ⌜ r ≡ callersCell shape (parityCell shape q) ⌝ }
+{
+    let p = shape.p;
+    if q < p {
+        return q * p + (p - 2);
+    }
+    (q - p) * p + (p - 1)
+}
+
+// The row of column 0 in which the second family goes on that starts in a column; 0 where it has ended before.
+fn past(column: usize) -> usize
+    ensures { λ r. ⌜ r ≡ column - 3 ⌝ }
+{
+    if column < 3 {
+        return 0;
+    }
+    column - 3
+}
+
+// The line of equation q: the first family goes down the rows from row 0 on, the second up from row p - 3 on, both one column on, round after the last.
 pub fn line(shape: Shape, q: usize) -> Line
     requires { ⌜ WellFormed shape × (shape .code ≡ 3) × (q < equations shape) ⌝ }
     ensures { λ r. ⌜ Walks shape q r ⌝ }
 {
     let p = shape.p;
     if q < p {
+        let column = crate::turned(q, 2, p);
         return Line {
-            to: q * p + (p - 2),
             count: p - 2,
-            first: crate::turned(q, 2, p) * p,
+            first: column * p,
             step: p + 1,
-            around: p * p,
-            turn: 0,
-            second: 0,
+            turn: p - column,
+            second: p - column,
+            extra: 0,
         };
     }
-    let c = q - p;
+    let column = crate::turned(q - p, 1, p);
     Line {
-        to: c * p + (p - 1),
         count: p - 2,
-        first: crate::turned(c, p - 2, p) * p,
-        step: (p - 1) * p + 1,
-        around: p * p,
-        turn: 0,
-        second: 0,
+        first: column * p + (p - 3),
+        step: p - 1,
+        turn: p - column,
+        second: past(column),
+        extra: 0,
     }
 }
 

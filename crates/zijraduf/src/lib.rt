@@ -125,7 +125,11 @@ pub extern "C" fn zijraduf_write(
 
 // Rebuild cells.
 #[no_mangle]
-pub extern "C" fn zijraduf_rebuild_cells(shape: ShapeNumbers, stripe: &mut [u8], lost: &[usize]) -> usize
+pub extern "C" fn zijraduf_rebuild_cells(
+    shape: ShapeNumbers,
+    stripe: &mut [u8],
+    lost: &[usize],
+) -> usize
     ensures { λ r. ⌜ Told shape (λ s. RebuildsCells s (now (lost .entry)) (now (stripe .entry)) r (now (stripe .exit))) ⌝ }
 {
     rebuild::cells(shape_from(shape), stripe, lost)

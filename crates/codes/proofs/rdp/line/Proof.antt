@@ -1,14 +1,20 @@
--- `codes::rdp::line` meets its contract. Rows go through the data columns that exist.
-use mathlib.Core.Path.{_≡_, refl, ap, subst}
-use Prim.Native.Nat.{ℕ, _+_, _-_, _*_, _≤_}
+-- `codes::rdp::line` meets its contract. Rows and diagonals over the data columns that exist, and the cell of the row parity column.
+use mathlib.Core.Path.{_≡_, refl, sym, ap, _∙_, subst}
+use mathlib.Core.Bool.{cond}
+use Prim.Native.Nat.{ℕ, _+_, _-_, _*_, _<_}
 use native.Mathlib.Omega.{arith}
+use lib.Dec.{eqb, ltb}
 use Rattle.codes.specs.Lines.{Walks}
 use Rattle.codes.proofs.Shapes.{low, high}
 use Rattle.codes.proofs.Lines.{rdp-n}
-use Rattle.codes.proofs.Short.{m-is, small-cells, row-walks}
+use Rattle.codes.proofs.Short.{m-is, small-cells, row-walks, diagonal-walks}
 use borrow.Author.Needs.{needs}
 use Rattle.codes.proofs.rdp.line.Statement.{statement}
 use Rattle.codes.proofs.rdp.line.Tie as tie
+
+-- past the rows
+rest : (c : tie.Else1) → (c .before .before .before .args .q - (c .before .before .before .args .shape .p - 1)) < c .before .before .before .args .shape .p - 1
+rest c = omega (arith, c .if1 .left, rdp-n (c .before .before .before .args .shape) (c .before .before .before .pre .0) (c .before .before .before .pre .1), c .before .before .before .pre .2)
 
 sub-n : tie.Need-sub-n
 sub-n c = omega (arith, low (c .before .args .shape) (c .before .pre .0))
@@ -16,34 +22,55 @@ sub-n c = omega (arith, low (c .before .args .shape) (c .before .pre .0))
 data-columns-requires : tie.Need-data-columns-requires
 data-columns-requires c κs = search needs
 
--- as many cells as the data columns have
-few : (c : tie.After-data-columns) → let s = c .before .before .before in c .data-columns .result * (s .args .shape .p - 1) ≤ 1024
-few c =
-    let s = c .before .before .before in
-    small-cells (s .args .shape) (s .pre .0) (s .pre .1) (c .data-columns .result) (omega (arith, m-is (s .args .shape) (s .pre .0) (s .pre .1) _ (c .data-columns .ensures) .1, high (s .args .shape) (s .pre .0)))
-
-mul-t6 : tie.Need-mul-t6
-mul-t6 c = omega (arith, few c)
-
-add-t7 : tie.Need-add-t7
-add-t7 c = omega (arith, few c, high (c .before .before .before .args .shape) (c .before .before .before .pre .0))
-
-mul-t8 : tie.Need-mul-t8
-mul-t8 c = omega (arith, few c)
-
 returns : tie.Need-returns
-returns c =
-    let s = c .before .before .before in
-    let m = c .data-columns .ensures in
-    row-walks (s .args .shape) (s .pre .0) (s .pre .1) (s .args .q) (c .before .if1 .taken) _ (ap (λ (x : ℕ). x * (s .args .shape .p - 1) + s .args .q) m) m refl refl (ap (λ (x : ℕ). x * (s .args .shape .p - 1)) m) refl refl
+returns c = row-walks (c .before .before .before .args .shape) (c .before .before .before .pre .0) (c .before .before .before .pre .1) (c .before .before .before .args .q) (c .if1 .taken) _ (c .before .data-columns .ensures) refl refl refl refl refl
 
-diagonal-requires : tie.Need-diagonal-requires
-diagonal-requires c κs = let s = c .before .before in (s .pre .0, s .pre .1, omega (arith, rdp-n (s .args .shape) (s .pre .0) (s .pre .1)))
+met-requires : tie.Need-met-requires
+met-requires c κs = (m-is (c .before .before .before .args .shape) (c .before .before .before .pre .0) (c .before .before .before .pre .1) _ (c .before .data-columns .ensures) .0, omega (arith, rest c, high (c .before .before .before .args .shape) (c .before .before .before .pre .0)))
+
+sub-t8 : tie.Need-sub-t8
+sub-t8 c = omega (arith, low (c .before .before .before .before .args .shape) (c .before .before .before .before .pre .0))
+
+add-t9 : tie.Need-add-t9
+add-t9 c = omega (arith, rest (c .before), high (c .before .before .before .before .args .shape) (c .before .before .before .before .pre .0))
+
+add-t10 : tie.Need-add-t10
+add-t10 c = omega (arith, rest (c .before), high (c .before .before .before .before .args .shape) (c .before .before .before .before .pre .0))
+
+mul-t11 : tie.Need-mul-t11
+mul-t11 c = omega (arith, small-cells (c .before .before .before .before .args .shape) (c .before .before .before .before .pre .0) (c .before .before .before .before .pre .1) ((c .before .before .before .before .args .q - (c .before .before .before .before .args .shape .p - 1)) + 2) (omega (arith, rest (c .before), high (c .before .before .before .before .args .shape) (c .before .before .before .before .pre .0))))
+
+sub-t12 : tie.Need-sub-t12
+sub-t12 c = omega (arith, low (c .before .before .before .before .args .shape) (c .before .before .before .before .pre .0))
+
+add-t13 : tie.Need-add-t13
+add-t13 c = omega (arith, small-cells (c .before .before .before .before .args .shape) (c .before .before .before .before .pre .0) (c .before .before .before .before .pre .1) ((c .before .before .before .before .args .q - (c .before .before .before .before .args .shape .p - 1)) + 2) (omega (arith, rest (c .before), high (c .before .before .before .before .args .shape) (c .before .before .before .before .pre .0))), high (c .before .before .before .before .args .shape) (c .before .before .before .before .pre .0))
+
+corner-requires : tie.Need-corner-requires
+corner-requires c κs = (omega (arith, m-is (c .before .before .before .before .args .shape) (c .before .before .before .before .pre .0) (c .before .before .before .before .pre .1) _ (c .before .before .data-columns .ensures) .1, high (c .before .before .before .before .args .shape) (c .before .before .before .before .pre .0)), omega (arith, high (c .before .before .before .before .args .shape) (c .before .before .before .before .pre .0)), omega (arith, rest (c .before), high (c .before .before .before .before .args .shape) (c .before .before .before .before .pre .0)))
 
 returns-2 : tie.Need-returns-2
 returns-2 c =
-    let s = c .before .before .before in
-    subst (λ (q : ℕ). Walks (s .args .shape) q (c .diagonal .result)) (let same : s .args .shape .p - 1 + (s .args .q - (s .args .shape .p - 1)) ≡ s .args .q = omega (arith, c .before .if1 .left) in same) (c .diagonal .ensures)
+    let s = c .before .before .before .before .before in
+    let n = s .args .shape .p - 1 in
+    let d = s .args .q - n in
+    let m = c .before .before .before .data-columns .ensures in
+    diagonal-walks (s .args .shape) (s .pre .0) (s .pre .1) d (rest (c .before .before)) _ (c .before .met .ensures ∙ ap (λ (x : ℕ). cond (ltb (d + 1) x) (x - 1) x) m) refl refl refl refl (c .corner .ensures ∙ ap (λ (x : ℕ). cond (eqb (d + 1) n) 0 (x * n + (d + 1))) m)
+    (s .args .q) (omega (arith, c .before .before .if1 .left))
 
 pub line-spec : {M : Type 1} → statement M
-line-spec = tie.close (tie.spec sub-n data-columns-requires mul-t6 add-t7 mul-t8 returns diagonal-requires returns-2)
+line-spec =
+    tie.close
+    (tie.spec
+    sub-n
+    data-columns-requires
+    returns
+    met-requires
+    sub-t8
+    add-t9
+    add-t10
+    mul-t11
+    sub-t12
+    add-t13
+    corner-requires
+    returns-2)

@@ -1,7 +1,7 @@
--- `codes::rdp::met` meets its contract. The row parity column's cell counts unless it would be in row p - 1.
+-- `codes::rdp::met` meets its contract. Column d + 1 is one of them, or it is not.
 use mathlib.Core.Path.{refl}
 use Prim.Native.Nat.{_+_}
-use borrow.Author.Tests.{eq-eqb, ne-eqb}
+use borrow.Author.Tests.{lt-ltb, le-ltb}
 use borrow.Author.Needs.{needs}
 use Rattle.codes.proofs.rdp.met.Statement.{statement}
 use Rattle.codes.proofs.rdp.met.Tie as tie
@@ -9,14 +9,14 @@ use Rattle.codes.proofs.rdp.met.Tie as tie
 add-if1 : tie.Need-add-if1
 add-if1 c = search needs
 
-returns : tie.Need-returns
-returns c = rw (eq-eqb (c .before .args .d + 1) (c .before .args .n) (c .if1 .taken)) refl
+sub-result : tie.Need-sub-result
+sub-result c = search needs
 
-add-result : tie.Need-add-result
-add-result c = search needs
+returns : tie.Need-returns
+returns c = rw (lt-ltb (c .before .args .d + 1) (c .before .args .m) (c .if1 .taken)) refl
 
 returns-2 : tie.Need-returns-2
-returns-2 c = rw (ne-eqb (c .before .args .d + 1) (c .before .args .n) (c .if1 .left)) refl
+returns-2 c = rw (le-ltb (c .before .args .d + 1) (c .before .args .m) (c .if1 .left)) refl
 
 pub met-spec : {M : Type 1} → statement M
-met-spec = tie.close (tie.spec add-if1 returns add-result returns-2)
+met-spec = tie.close (tie.spec add-if1 sub-result returns returns-2)

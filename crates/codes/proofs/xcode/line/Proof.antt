@@ -1,88 +1,90 @@
--- `codes::xcode::line` meets its contract. Each line walks the track of its equation.
-use mathlib.Core.Path.{_≡_, refl}
-use Prim.Native.Nat.{ℕ, _-_, _*_, _%_, _≤_, _<_}
+-- `codes::xcode::line` meets its contract. Each line goes through p - 2 columns, round after the last.
+use mathlib.Core.Path.{_≡_, refl, sym, ap, _∙_, subst}
+use Prim.Native.Nat.{ℕ, _+_, _-_, _*_, _%_, _≤_, _<_}
 use native.Mathlib.Omega.{arith}
 use Rattle.codes.specs.declared.Shape.{Shape}
 use Rattle.codes.specs.Shape.{WellFormed}
-use Rattle.codes.proofs.Shapes.{low, high, equations-third}
-use Rattle.codes.proofs.Depends.{small-turn}
+use Rattle.codes.proofs.Shapes.{low, high}
+use Rattle.codes.proofs.Lines.{xcode-n}
+use Rattle.codes.proofs.Depends.{turn-below}
 use Rattle.codes.proofs.Whole.{small-columns, xcode-first-walks, xcode-second-walks}
+use borrow.Author.Needs.{needs}
 use Rattle.codes.proofs.xcode.line.Statement.{statement}
 use Rattle.codes.proofs.xcode.line.Tie as tie
 
--- as many cells as so many columns have are few
-few : (s : Shape) → WellFormed s → (a : ℕ) → a ≤ 32 → a * s .p ≤ 992
-few s w a l = small-columns s w a (s .p) l (omega arith)
-
-turned-few : (s : Shape) → WellFormed s → (a n : ℕ) → a ≡ n % s .p → a * s .p ≤ 992
-turned-few s w a n e = few s w a (omega (arith, small-turn a n (s .p) (low s w) (high s w) e))
-
-mul-t6 : tie.Need-mul-t6
-mul-t6 c = omega (arith, few (c .before .args .shape) (c .before .pre .0) (c .before .args .q) (omega (arith, high (c .before .args .shape) (c .before .pre .0))))
-
-sub-t7 : tie.Need-sub-t7
-sub-t7 c = omega (arith, low (c .before .args .shape) (c .before .pre .0))
-
-add-t8 : tie.Need-add-t8
-add-t8 c = omega (arith, few (c .before .args .shape) (c .before .pre .0) (c .before .args .q) (omega (arith, high (c .before .args .shape) (c .before .pre .0))), high (c .before .args .shape) (c .before .pre .0))
-
-sub-t9 : tie.Need-sub-t9
-sub-t9 c = omega (arith, low (c .before .args .shape) (c .before .pre .0))
-
-turned-requires : tie.Need-turned-requires
-turned-requires c κs = (omega arith, omega (arith, low (c .before .args .shape) (c .before .pre .0)), omega (arith, high (c .before .args .shape) (c .before .pre .0)))
-
-mul-t11 : tie.Need-mul-t11
-mul-t11 c = omega (arith, turned-few (c .before .before .args .shape) (c .before .before .pre .0) _ _ (c .turned .ensures))
-
-add-t12 : tie.Need-add-t12
-add-t12 c = omega (arith, high (c .before .before .args .shape) (c .before .before .pre .0))
-
-mul-t13 : tie.Need-mul-t13
-mul-t13 c = omega (arith, few (c .before .before .args .shape) (c .before .before .pre .0) (c .before .before .args .shape .p) (omega (arith, high (c .before .before .args .shape) (c .before .before .pre .0))))
-
-returns : tie.Need-returns
-returns c = let s = c .before .before in xcode-first-walks (s .args .shape) (s .pre .0) (s .pre .1) _ refl refl refl refl _ _ (c .before .if1 .taken) (c .turned .ensures) refl refl refl
+-- as many cells as so many columns have
+few : (s : Shape) → WellFormed s → (a n : ℕ) → a ≡ n % s .p → a * s .p ≤ 992
+few s w a n e = small-columns s w a (s .p) (omega (arith, turn-below a n (s .p) (low s w) e, high s w)) (omega arith)
 
 -- past the first family
-rest : (c : tie.Else1) → c .before .args .q - c .before .args .shape .p < c .before .args .shape .p
-rest c = omega (arith, low (c .before .args .shape) (c .before .pre .0), equations-third (c .before .args .shape) (c .before .pre .1))
+rest : (c : tie.Else1) → (c .before .args .q - c .before .args .shape .p) < c .before .args .shape .p
+rest c = omega (arith, c .if1 .left, xcode-n (c .before .args .shape) (c .before .pre .0) (c .before .pre .1), c .before .pre .2)
 
-mul-t14 : tie.Need-mul-t14
-mul-t14 c = omega (arith, few (c .before .args .shape) (c .before .pre .0) (c .before .args .q - c .before .args .shape .p) (omega (arith, rest c, high (c .before .args .shape) (c .before .pre .0))))
+turned-requires : tie.Need-turned-requires
+turned-requires c κs = (c .if1 .taken, omega (arith, low (c .before .args .shape) (c .before .pre .0)), omega (arith, high (c .before .args .shape) (c .before .pre .0)))
 
-sub-t15 : tie.Need-sub-t15
-sub-t15 c = omega (arith, low (c .before .args .shape) (c .before .pre .0))
+sub-t7 : tie.Need-sub-t7
+sub-t7 c = omega (arith, low (c .before .before .args .shape) (c .before .before .pre .0))
 
-add-t16 : tie.Need-add-t16
-add-t16 c = omega (arith, few (c .before .args .shape) (c .before .pre .0) (c .before .args .q - c .before .args .shape .p) (omega (arith, rest c, high (c .before .args .shape) (c .before .pre .0))), high (c .before .args .shape) (c .before .pre .0))
+mul-t8 : tie.Need-mul-t8
+mul-t8 c = omega (arith, few (c .before .before .args .shape) (c .before .before .pre .0) _ _ (c .turned .ensures))
 
-sub-t17 : tie.Need-sub-t17
-sub-t17 c = omega (arith, low (c .before .args .shape) (c .before .pre .0))
+add-t9 : tie.Need-add-t9
+add-t9 c = omega (arith, high (c .before .before .args .shape) (c .before .before .pre .0))
 
-sub-turned : tie.Need-sub-turned
-sub-turned c = omega (arith, low (c .before .args .shape) (c .before .pre .0))
+sub-t10 : tie.Need-sub-t10
+sub-t10 c = omega (arith, turn-below _ _ _ (low (c .before .before .args .shape) (c .before .before .pre .0)) (c .turned .ensures))
+
+sub-t11 : tie.Need-sub-t11
+sub-t11 c = omega (arith, turn-below _ _ _ (low (c .before .before .args .shape) (c .before .before .pre .0)) (c .turned .ensures))
+
+returns : tie.Need-returns
+returns c = xcode-first-walks (c .before .before .args .shape) (c .before .before .pre .0) (c .before .before .pre .1) (c .before .before .args .q) _ (c .before .if1 .taken) (c .turned .ensures) _ refl refl refl refl refl refl
 
 turned-requires-2 : tie.Need-turned-requires-2
-turned-requires-2 c κs = (rest c, omega arith, omega (arith, high (c .before .args .shape) (c .before .pre .0)))
+turned-requires-2 c κs = (rest c, omega (arith, low (c .before .args .shape) (c .before .pre .0)), omega (arith, high (c .before .args .shape) (c .before .pre .0)))
 
-mul-t20 : tie.Need-mul-t20
-mul-t20 c = omega (arith, turned-few (c .before .before .args .shape) (c .before .before .pre .0) _ _ (c .turned2 .ensures))
+sub-t12 : tie.Need-sub-t12
+sub-t12 c = omega (arith, low (c .before .before .args .shape) (c .before .before .pre .0))
 
-sub-t21 : tie.Need-sub-t21
-sub-t21 c = omega (arith, low (c .before .before .args .shape) (c .before .before .pre .0))
+mul-t13 : tie.Need-mul-t13
+mul-t13 c = omega (arith, few (c .before .before .args .shape) (c .before .before .pre .0) _ _ (c .turned2 .ensures))
 
-mul-t22 : tie.Need-mul-t22
-mul-t22 c = omega (arith, few (c .before .before .args .shape) (c .before .before .pre .0) (c .before .before .args .shape .p - 1) (omega (arith, high (c .before .before .args .shape) (c .before .before .pre .0))))
+sub-t14 : tie.Need-sub-t14
+sub-t14 c = omega (arith, low (c .before .before .args .shape) (c .before .before .pre .0))
 
-add-t23 : tie.Need-add-t23
-add-t23 c = omega (arith, few (c .before .before .args .shape) (c .before .before .pre .0) (c .before .before .args .shape .p - 1) (omega (arith, high (c .before .before .args .shape) (c .before .before .pre .0))))
+add-t15 : tie.Need-add-t15
+add-t15 c = omega (arith, few (c .before .before .args .shape) (c .before .before .pre .0) _ _ (c .turned2 .ensures), high (c .before .before .args .shape) (c .before .before .pre .0))
 
-mul-t24 : tie.Need-mul-t24
-mul-t24 c = omega (arith, few (c .before .before .args .shape) (c .before .before .pre .0) (c .before .before .args .shape .p) (omega (arith, high (c .before .before .args .shape) (c .before .before .pre .0))))
+sub-t16 : tie.Need-sub-t16
+sub-t16 c = omega (arith, low (c .before .before .args .shape) (c .before .before .pre .0))
+
+sub-t17 : tie.Need-sub-t17
+sub-t17 c = omega (arith, turn-below _ _ _ (low (c .before .before .args .shape) (c .before .before .pre .0)) (c .turned2 .ensures))
+
+past-requires : tie.Need-past-requires
+past-requires c κs = search needs
 
 returns-2 : tie.Need-returns-2
-returns-2 c = let s = c .before .before in xcode-second-walks (s .args .shape) (s .pre .0) (s .pre .1) _ refl refl refl refl _ _ (c .before .if1 .left) (s .pre .2) (c .turned2 .ensures) refl refl refl
+returns-2 c = xcode-second-walks (c .before .before .before .args .shape) (c .before .before .before .pre .0) (c .before .before .before .pre .1) (c .before .before .before .args .q) _ (c .before .before .if1 .left) (c .before .before .before .pre .2) (c .before .turned2 .ensures) _ refl refl refl refl (c .past .ensures) refl
 
 pub line-spec : {M : Type 1} → statement M
-line-spec = tie.close (tie.spec mul-t6 sub-t7 add-t8 sub-t9 turned-requires mul-t11 add-t12 mul-t13 returns mul-t14 sub-t15 add-t16 sub-t17 sub-turned turned-requires-2 mul-t20 sub-t21 mul-t22 add-t23 mul-t24 returns-2)
+line-spec =
+    tie.close
+    (tie.spec
+    turned-requires
+    sub-t7
+    mul-t8
+    add-t9
+    sub-t10
+    sub-t11
+    returns
+    turned-requires-2
+    sub-t12
+    mul-t13
+    sub-t14
+    add-t15
+    sub-t16
+    sub-t17
+    past-requires
+    returns-2)
