@@ -248,7 +248,7 @@ module _ (s : Shape) (w : WellFormed s) where
     xcode-second-walks q column lo hi starts l count first step turn second extra =
         family q (s .p - 1) (q - s .p) (λ k. (s .p + (q - s .p) - k - 2) % s .p) (xcode-second-is s w is-xcode q lo) l count column below turn extra (λ k. s .p - 3 - k) (λ k lk. omega (arith, low s w)) (λ k lk. twice k lk)
         (λ k lk. ap (λ (x : ℕ). (x + k) % s .p) starts ∙ mod-add-mod (q - s .p + 1) (s .p) k ∙ ap (λ (x : ℕ). x % s .p) (up k lk))
-        (first ∙ ap (λ (x : ℕ). column * s .p + x) (let z : s .p - 3 ≡ s .p - 3 - 0 = omega arith in z)) (λ k lk e. second ∙ (let z : column - 3 ≡ s .p - 3 - suc k = omega (arith, turn) in z)) (λ k lk. one-up (s .p) k (l .step) lk step) (omega (arith, high s w)) (omega (arith, high s w))
+        (first ∙ ap (λ (x : ℕ). column * s .p + x) (let z : s .p - 3 ≡ s .p - 3 - 0 = omega arith in z)) (λ k lk e. second ∙ (let z : column - 3 ≡ s .p - 3 - suc k = omega (arith, turn) in z)) (λ k lk. one-up (s .p) k (l .step) lk step) (omega (arith, high s w)) (omega (arith, below, high s w))
       where
         below : column < s .p
         below = omega (arith, starts, below-mod (q - s .p + 1))
