@@ -22,16 +22,16 @@ pub enum PlanAnswer {
     Refused(usize),
 }
 
-// The refusal of a shape that must be RDP's: what is wrong with its code or prime, another code, or its cell size, or 0.
+// The refusal of a shape that must be RDP's: what is wrong with its code, its prime or its data columns, another code, or its cell size, or 0.
 pub fn rdp_refusal(shape: Shape) -> usize
     ensures { λ r. ⌜ r ≡ refusal (rdpFaults shape) ⌝ }
 {
-    let refusal = codes::code_refusal(shape);
-    if refusal != 0 {
-        return refusal;
-    }
+    let wrong = codes::code_refusal(shape);
     let size = codes::size_refusal(shape);
     let code = shape.code;
+    if wrong != 0 {
+        return wrong;
+    }
     if code != 1 {
         return 3;
     }

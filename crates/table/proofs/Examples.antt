@@ -1,5 +1,6 @@
 -- Every row of the table holds: one test that antt computes over the whole table, and a law that turns the test into each row's claim.
 use mathlib.Core.Path.{_≡_, refl, sym, ap, _∙_, subst}
+use mathlib.Core.Logic.{_⊎_, ⊎-elim}
 use mathlib.Core.List.{List, [], _∷_}
 use mathlib.Core.Bool.{Bool, true, false, not, _&&_, xor}
 use Prim.Native.Nat.{ℕ, _*_, _^_, _<_}
@@ -15,8 +16,9 @@ use Rattle.bits.specs.Bit.{bit, lowest}
 use Rattle.elimination.specs.Solution.{syndrome}
 use Rattle.elimination.specs.Method.{run}
 use Rattle.codes.specs.declared.Shape.{Shape}
-use Rattle.codes.specs.Shape.{listed, rows, columns, equations, cells, cellNumber, stripeLength, WellFormed}
-use Rattle.codes.specs.Geometry.{columnOf, liesAt, cellAt, cellOf, callersCell, place}
+use Rattle.codes.specs.declared.Width.the-variants.{Data}
+use Rattle.codes.specs.Shape.{listed, rows, columns, missing, disks, existing, equations, cells, cellNumber, stripeLength, WellFormed}
+use Rattle.codes.specs.Geometry.{isThere, cellThere, columnOf, liesAt, cellAt, cellOf, callersCell, place}
 use Rattle.codes.specs.Equations.{equation}
 use Rattle.codes.specs.Encoded.{parityCell, sumsCell, byteAt, sumOver, parityByte, isParity, Encoded, fails, brokenEquations}
 use Rattle.codes.specs.Refusals.{order, applies, firstOf, refusal, shapeFaults, stripeFaults, writeFaults, cellsFaults}
@@ -24,7 +26,8 @@ use Rattle.codes.specs.Holders.{holds}
 use Rattle.codes.specs.Depends.{WriteRight}
 use Rattle.codes.proofs.Refused.{accepted, write-accepted}
 use Rattle.codes.proofs.Positions.{cell-inside}
-use Rattle.codes.proofs.Geometry.{column-there}
+use Rattle.codes.proofs.Geometry.{column-there, cell-there-at}
+use Rattle.decide.proofs.Marks.{named-there, columns-there}
 use Rattle.stripe.specs.Write.{Written, Depending}
 use Rattle.stripe.proofs.BrokenFacts.{not-failing}
 use Rattle.stripe.proofs.Encoding.{settled}
@@ -40,7 +43,7 @@ use Rattle.rebuild.proofs.Computed.{outcome, stops, stops-undetermined, passes-
 use Rattle.plan.specs.Plan.{diagonal, chosen, readsCell, cellsRead, byRule, isAccepted}
 use Rattle.plan.specs.Refusals.{planFaults}
 use Rattle.spare.specs.Refusals.{spareFaults, runFaults}
-use Rattle.table.specs.Examples.{Claim, encoded, broken, written, rebuildRefused, rebuilt, found, planned, runRefused, Example, emptySpare, table, Claims, Holds, AllHold}
+use Rattle.table.specs.Examples.{Claim, encoded, broken, written, rebuildRefused, rebuilt, found, planned, runRefused, Example, emptySpare, table, shelves, Claims, Holds, AllHold}
 
 -- the difference put alone and encoded, byte t of it in cell k
 differing : Shape → ℕ → List ℕ → List ℕ → ℕ → ℕ → ℕ
@@ -64,8 +67,8 @@ wide stripe = any (length stripe) (λ i. not (ltb (getD stripe i 0) 256))
 -- whether bad column's finding is so
 finds : Shape → List ℕ → BadColumn → Bool
 finds s stripe Clean = not (any (equations s) (fails s stripe))
-finds s stripe (Column c) = any (equations s) (fails s stripe) && (not (wide stripe) && (ltb c (columns s) && replaces s stripe c))
-finds s stripe Unexplained = any (equations s) (fails s stripe) && not (any (columns s) (replaces s stripe))
+finds s stripe (Column c) = any (equations s) (fails s stripe) && (not (wide stripe) && (ltb c (disks s) && replaces s stripe c))
+finds s stripe Unexplained = any (equations s) (fails s stripe) && not (any (disks s) (replaces s stripe))
 finds s stripe (Refused number) = false
 
 -- whether a rebuild of the cells that a list names is not refused for its numbers
@@ -116,6 +119,10 @@ module _ (s : Shape) (stripe : List ℕ) (row column : ℕ) (bytes new : List �
   unfolding c
   inside = cell-inside s (right .formed) row (columnOf s column) (right .cell .low) (right .cell .right)
 
+  there : cellThere s c ≡ true
+  unfolding c
+  there = cell-there-at s (right .formed) row (columnOf s column) (right .cell .low) ∙ right .there
+
   plain : isParity s c ≡ false
   unfolding c
   plain = right .cell .plain
@@ -123,7 +130,7 @@ module _ (s : Shape) (stripe : List ℕ) (row column : ℕ) (bytes new : List �
   is-written : Written s c stripe bytes new
   unfolding unwritten differing
   is-written =
-      written-alone s (right .formed) c inside plain stripe bytes new (eqb-true (length new) (length stripe) (and-left (eqb (length new) (length stripe)) (not (unwritten s c stripe bytes new) && eqb n (depending s c)) later))
+      written-alone s (right .formed) c inside there plain stripe bytes new (eqb-true (length new) (length stripe) (and-left (eqb (length new) (length stripe)) (not (unwritten s c stripe bytes new) && eqb n (depending s c)) later))
       (λ k lk t lt. eqb-true (byteAt s new k t) (byteAt s stripe k t ⊕ differing s c stripe bytes t k)
       (not-false (eqb (byteAt s new k t) (byteAt s stripe k t ⊕ differing s c stripe bytes t k))
       (any-none (s .cell) (λ u. not (eqb (byteAt s new k u) (byteAt s stripe k u ⊕ differing s c stripe bytes u k)))
@@ -134,7 +141,7 @@ module _ (s : Shape) (stripe : List ℕ) (row column : ℕ) (bytes new : List �
   unfolding depending
   is-depending = record {
     unit = settled s (equations s) (point c 1);
-    alone = unit-exists s (right .formed) c inside plain;
+    alone = unit-exists s (right .formed) c inside there plain;
     size = eqb-true n (depending s c) (and-right (not (unwritten s c stripe bytes new)) (eqb n (depending s c)) last);
   }
 
@@ -159,28 +166,28 @@ not-wide stripe h i =
     (λ l. subst (λ (x : ℕ). x < 256) (sym (List·getD-eq-default stripe 0 l)) (omega arith))
 
 module _ (s : Shape) (w : WellFormed s) (stripe : List ℕ) where
-  is-replaceable : wide stripe ≡ false → (c : ℕ) → c < columns s → replaces s stripe c ≡ true → Replaceable s stripe c
+  is-replaceable : wide stripe ≡ false → (c : ℕ) → c < disks s → replaces s stripe c ≡ true → Replaceable s stripe c
   unfolding replaces
-  is-replaceable bytes c l h = let new = fits-restores s w (callersColumns s c c) stripe (not-wide stripe bytes) h in record { inside = l; replaced = new .0; restores = new .1 }
+  is-replaceable bytes c l h = let new = fits-restores s w (callersColumns s c c) (columns-there s w c c) stripe (not-wide stripe bytes) h in record { inside = l; replaced = new .0; restores = new .1 }
 
-  none-replaceable : any (columns s) (replaces s stripe) ≡ false → (c : ℕ) → Replaceable s stripe c → ⊥
+  none-replaceable : any (disks s) (replaces s stripe) ≡ false → (c : ℕ) → Replaceable s stripe c → ⊥
   unfolding replaces
   none-replaceable h c r =
-      unfit-none s w (callersColumns s c c) stripe (columns-determined s w (columnOf s c) (columnOf s c) (column-there s c (r .inside)) (column-there s c (r .inside))) (any-none (columns s) (replaces s stripe) h c (r .inside)) (r .replaced) (r .restores)
+      unfit-none s w (callersColumns s c c) (columns-there s w c c) stripe (columns-determined s w (columnOf s c) (columnOf s c) (column-there s w c (r .inside)) (column-there s w c (r .inside))) (any-none (disks s) (replaces s stripe) h c (r .inside)) (r .replaced) (r .restores)
 
   is-found : (answer : BadColumn) → finds s stripe answer ≡ true → Finding s stripe answer
   unfolding finds
   is-found Clean h = is-clean s stripe h
   is-found (Column c) h =
-      let later = and-right (any (equations s) (fails s stripe)) (not (wide stripe) && (ltb c (columns s) && replaces s stripe c)) h in
-      let last = and-right (not (wide stripe)) (ltb c (columns s) && replaces s stripe c) later in (
-        some-fails s stripe (and-left (any (equations s) (fails s stripe)) (not (wide stripe) && (ltb c (columns s) && replaces s stripe c)) h),
-        is-replaceable (not-true (wide stripe) (and-left (not (wide stripe)) (ltb c (columns s) && replaces s stripe c) later)) c
-            (ltb-true c (columns s) (and-left (ltb c (columns s)) (replaces s stripe c) last)) (and-right (ltb c (columns s)) (replaces s stripe c) last),
+      let later = and-right (any (equations s) (fails s stripe)) (not (wide stripe) && (ltb c (disks s) && replaces s stripe c)) h in
+      let last = and-right (not (wide stripe)) (ltb c (disks s) && replaces s stripe c) later in (
+        some-fails s stripe (and-left (any (equations s) (fails s stripe)) (not (wide stripe) && (ltb c (disks s) && replaces s stripe c)) h),
+        is-replaceable (not-true (wide stripe) (and-left (not (wide stripe)) (ltb c (disks s) && replaces s stripe c) later)) c
+            (ltb-true c (disks s) (and-left (ltb c (disks s)) (replaces s stripe c) last)) (and-right (ltb c (disks s)) (replaces s stripe c) last),
       )
   is-found Unexplained h = (
-    some-fails s stripe (and-left (any (equations s) (fails s stripe)) (not (any (columns s) (replaces s stripe))) h),
-    none-replaceable (not-true (any (columns s) (replaces s stripe)) (and-right (any (equations s) (fails s stripe)) (not (any (columns s) (replaces s stripe))) h)),
+    some-fails s stripe (and-left (any (equations s) (fails s stripe)) (not (any (disks s) (replaces s stripe))) h),
+    none-replaceable (not-true (any (disks s) (replaces s stripe)) (and-right (any (equations s) (fails s stripe)) (not (any (disks s) (replaces s stripe))) h)),
   )
   is-found (Refused number) h = clash h refl
 
@@ -202,7 +209,7 @@ module _ (s : Shape) (stripe : List ℕ) (w : WellFormed s) (lost : List ℕ) wh
   is-refused number h =
       let later = and-right (rightCells s stripe lost) (eqb number 11 && stops (outcome s (named s lost))) h in
       decided number stripe (and-left (rightCells s stripe lost) (eqb number 11 && stops (outcome s (named s lost))) h)
-      (undetermined (stops-undetermined s w (named s lost) (and-right (eqb number 11) (stops (outcome s (named s lost))) later))
+      (undetermined (stops-undetermined s w (named s lost) (named-there s w lost) (and-right (eqb number 11) (stops (outcome s (named s lost))) later))
       (eqb-true number 11 (and-left (eqb number 11) (stops (outcome s (named s lost))) later)) refl)
 
   module _ (new : List ℕ) (h : claimed s stripe (rebuilt lost new) ≡ true) where
@@ -314,7 +321,28 @@ all-hold (e ∷ rows′) h =
     let first = eqb (refusal (stripeFaults (e .shape) (length (e .stripe)))) 0 && claimed (e .shape) (e .stripe) (e .claim) in
     (row-holds e (and-left first (passes rows′) h), all-hold rows′ (and-right first (passes rows′) h))
 
--- the theorem over the table
+-- the theorem over the table, and over that of shelves with fewer disks
 pub examples-hold : AllHold table
-unfolding table passes claimed rightCells unlike unwritten differing depending settled isParity writeFaults refusal firstOf order applies stripeFaults shapeFaults cellsFaults listed rows columns equations cells cellNumber stripeLength columnOf liesAt cellOf callersCell place equation parityCell sumsCell byteAt sumOver fails brokenEquations any count xors _⊕_ named run lowest holds xor finds replaces wide inColumns syndrome bit diagonal chosen readsCell cellsRead byRule isAccepted planFaults spareFaults runFaults
+unfolding table passes claimed rightCells unlike unwritten differing depending settled isParity writeFaults refusal firstOf order applies stripeFaults shapeFaults cellsFaults listed rows columns equations cells cellNumber stripeLength columnOf liesAt cellOf callersCell place equation parityCell sumsCell byteAt sumOver fails brokenEquations any count xors _⊕_ named run lowest holds xor finds replaces wide inColumns syndrome bit diagonal chosen readsCell cellsRead byRule isAccepted planFaults spareFaults runFaults missing disks existing isThere cellThere
 examples-hold = all-hold table refl
+
+pub shelves-hold : AllHold shelves
+unfolding shelves passes claimed rightCells unlike unwritten differing depending settled isParity writeFaults refusal firstOf order applies stripeFaults shapeFaults cellsFaults listed rows columns equations cells cellNumber stripeLength columnOf liesAt cellOf callersCell place equation parityCell sumsCell byteAt sumOver fails brokenEquations any count xors _⊕_ named run lowest holds xor finds replaces wide inColumns syndrome bit diagonal chosen readsCell cellsRead byRule isAccepted planFaults spareFaults runFaults missing disks existing isThere cellThere
+shelves-hold = all-hold shelves refl
+
+-- a plan for another code than RDP with a number of data columns is refused for the number, not for the code
+module _ (p cell m k : ℕ) (prime : listed p ≡ true) where
+  abbrev numbered : ℕ → Shape
+  numbered code = record { code = code; p = p; cell = cell; width = Data m }
+
+  of-two : refusal (planFaults (numbered 2) k) ≡ 14
+  unfolding planFaults refusal firstOf order applies
+  of-two = rw prime refl
+
+  of-three : refusal (planFaults (numbered 3) k) ≡ 14
+  unfolding planFaults refusal firstOf order applies
+  of-three = rw prime refl
+
+  pub data-before-code : (code : ℕ) → (code ≡ 2) ⊎ (code ≡ 3) → refusal (planFaults (numbered code) k) ≡ 14
+  data-before-code code =
+      ⊎-elim (λ e. subst (λ (c : ℕ). refusal (planFaults (numbered c) k) ≡ 14) (sym e) of-two) (λ e. subst (λ (c : ℕ). refusal (planFaults (numbered c) k) ≡ 14) (sym e) of-three)

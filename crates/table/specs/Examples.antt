@@ -1,10 +1,10 @@
--- The examples that document 01 marks P, as one table. Each row claims something in the words of the contracts.
+-- The examples that document 01 marks P, as one table, and such of shelves with fewer disks. Each row claims something in the words of the contracts.
 use mathlib.Core.Path.{_≡_}
 use mathlib.Core.List.{List, [], _∷_, _++_}
 use Prim.Native.Nat.{ℕ, _*_}
 use lib.ListN.{length, replicate}
 use Rattle.codes.specs.declared.Shape.{Shape}
-use Rattle.codes.specs.declared.Width.the-variants.{Full}
+use Rattle.codes.specs.declared.Width.the-variants.{Full, Data}
 use Rattle.codes.specs.declared.Counted.the-variants.{Count, Refused}
 use Rattle.codes.specs.Shape.{rows, cellNumber, stripeLength, WellFormed}
 use Rattle.codes.specs.Encoded.{Encoded}
@@ -35,7 +35,7 @@ pub data Claim : Type 0 where
   planned : (k rows reads : ℕ) → Claim
   runRefused : (k plan number : ℕ) → Claim
 
--- a row: the number behind P, a stripe, and what is claimed of it
+-- a row: the number behind P or of a request, a stripe, and what is claimed of it
 pub record Example : Type 0 where
   pub number : ℕ
   pub shape : Shape
@@ -86,6 +86,27 @@ table =
     ∷ record { number = 9; shape = small 1; claim = found (Column 3); stripe = 0x00 ∷ 0x04 ∷ 0x03 ∷ 0x08 ∷ 0x03 ∷ 0x0C ∷ 0x0D ∷ 0x06 ∷ [] }
     ∷ record { number = 10; shape = small 1; claim = found Unexplained; stripe = 0x00 ∷ 0x04 ∷ 0x02 ∷ 0x0A ∷ 0x03 ∷ 0x0C ∷ 0x0D ∷ 0x06 ∷ [] }
     ∷ record { number = 10; shape = small 1; claim = broken 3; stripe = 0x00 ∷ 0x04 ∷ 0x02 ∷ 0x0A ∷ 0x03 ∷ 0x0C ∷ 0x0D ∷ 0x06 ∷ [] }
+    ∷ []
+
+-- RDP with p = 5, two data columns and cells of one byte: four disks
+abbrev pub shelf : Shape
+shelf = record { code = 1; p = 5; cell = 1; width = Data 2 }
+
+-- a stripe of it, and one with another byte found in its first cell
+abbrev pub onShelf : ℕ → List ℕ
+onShelf byte = byte ∷ 0x02 ∷ 0x04 ∷ 0x08 ∷ 0x10 ∷ 0x20 ∷ 0x40 ∷ 0x80 ∷ 0x11 ∷ 0x22 ∷ 0x44 ∷ 0x88 ∷ 0x23 ∷ 0x56 ∷ 0xAC ∷ 0x48 ∷ []
+
+-- the same of shelves with fewer disks, for document 02, request 01: columns, cells and plans as callers number them
+unfoldable pub shelves : List Example
+shelves =
+    record { number = 1; shape = shelf; claim = encoded; stripe = onShelf 0x01 }
+    ∷ record { number = 1; shape = shelf; claim = found (Column 0); stripe = onShelf 0x00 }
+    ∷ record { number = 1; shape = shelf; claim = rebuilt (0 ∷ 1 ∷ 2 ∷ 3 ∷ 12 ∷ 13 ∷ 14 ∷ 15 ∷ []) (onShelf 0x01); stripe = onShelf 0xEE }
+    ∷ record { number = 1; shape = shelf; claim = planned 0 3 8; stripe = onShelf 0x01 }
+    ∷ record { number = 1; shape = shelf; claim = planned 1 3 7; stripe = onShelf 0x01 }
+    ∷ record { number = 1; shape = shelf; claim = planned 2 6 7; stripe = onShelf 0x01 }
+    ∷ record { number = 1; shape = shelf; claim = planned 3 15 10; stripe = onShelf 0x01 }
+    ∷ record { number = 1; shape = shelf; claim = runRefused 2 1 9; stripe = onShelf 0x01 }
     ∷ []
 
 -- a spare for a stripe's column
