@@ -233,6 +233,14 @@ module _ (s : Shape) (w : WellFormed s) where
   pub place-down : (i j from : ℕ) → i < rows s → from ≡ place s (cellNumber s 0 j) → from + i * s .cell ≡ place s (cellNumber s i j)
   place-down i j from l e = omega (arith, e, place-at 0 j tall, place-at i j l, add-mul (liesAt s j * rows s) 0 (s .cell), add-mul (liesAt s j * rows s) i (s .cell))
 
+  -- a cell by the number of its place
+  pub lent-at : (i d n : ℕ) → n ≡ rows s → i < rows s → (d * n + i) * s .cell ≡ place s (cellNumber s i (columnOf s d))
+  lent-at i d n e l = ap₂ (λ (x y : ℕ). (x * y + i) * s .cell) (sym (lies-column s w d)) e ∙ sym (place-at i (columnOf s d) l)
+
+  pub lent-number : (i d n : ℕ) → n ≡ rows s → i < rows s → d < disks s → d * n + i < existing s
+  unfolding cellNumber
+  lent-number i d n e li ld = subst (λ (x : ℕ). d * x + i < existing s) (sym e) (lies-inside i d li ld)
+
   pub row-seen : (c n : ℕ) → n ≡ rows s → c % n < rows s
   row-seen c n e = subst (λ (k : ℕ). c % k < rows s) (sym e) (row-at c)
 

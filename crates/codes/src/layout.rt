@@ -5,7 +5,7 @@ ghost use mathlib.Core.Path.{_≡_};
 ghost use mathlib.Core.Bool.{true};
 ghost use Prim.Native.Nat.{_<_};
 ghost use Rattle.codes.specs.Shape.{rows, columns, cells, disks, existing, cellNumber, WellFormed};
-ghost use Rattle.codes.specs.Geometry.{gap, isThere, cellThere, columnOf, liesAt, cellOf, place};
+ghost use Rattle.codes.specs.Geometry.{gap, isThere, cellThere, columnOf, liesAt, cellAt, cellOf, place};
 
 // The first column that need not exist: of RDP how many data columns there are.
 pub fn data_columns(shape: Shape) -> usize
@@ -60,6 +60,14 @@ pub fn cell_place(shape: Shape, row: usize, column: usize) -> usize
     ensures { λ r. ⌜ r ≡ place shape (cellNumber shape row column) ⌝ }
 {
     column_place(shape, column) + row * shape.cell
+}
+
+// Where the cell in a row and in the column that a caller calls d starts in the stripe's bytes.
+pub fn lent_place(shape: Shape, row: usize, d: usize) -> usize
+    requires { ⌜ WellFormed shape × (row < rows shape) × (d < disks shape) ⌝ }
+    ensures { λ r. ⌜ r ≡ place shape (cellAt shape row d) ⌝ }
+{
+    (d * crate::row_count(shape) + row) * shape.cell
 }
 
 // Where cell c, as the equations number it, starts in the stripe's bytes.

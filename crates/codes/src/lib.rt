@@ -23,6 +23,7 @@ pub use layout::cell_place;
 pub use layout::column_of;
 pub use layout::column_place;
 pub use layout::data_columns;
+pub use layout::lent_place;
 pub use layout::lies_at;
 pub use layout::place_of;
 
@@ -257,13 +258,13 @@ fn line_of(shape: Shape, q: usize) -> Line
     requires { ⌜ WellFormed shape × (q < equations shape) ⌝ }
     ensures { λ r. ⌜ Walks shape q r ⌝ }
 {
+    if shape.code == 3 {
+        return xcode::line(shape, q);
+    }
     if shape.code == 1 {
         return rdp::line(shape, q);
     }
-    if shape.code == 2 {
-        return hcode::line(shape, q);
-    }
-    xcode::line(shape, q)
+    hcode::line(shape, q)
 }
 
 // Where cell k of a line starts, given where the one before it does; all numbers but k and turn in bytes.
@@ -338,13 +339,13 @@ fn parity_number(shape: Shape, q: usize) -> usize
     requires { ⌜ WellFormed shape × (q < equations shape) ⌝ }
     ensures { λ r. ⌜ r ≡ callersCell shape (parityCell shape q) ⌝ }
 {
+    if shape.code == 3 {
+        return xcode::parity(shape, q);
+    }
     if shape.code == 1 {
         return rdp::parity(shape, q);
     }
-    if shape.code == 2 {
-        return hcode::parity(shape, q);
-    }
-    xcode::parity(shape, q)
+    hcode::parity(shape, q)
 }
 
 // Where in the stripe's bytes the parity cell of equation q starts.

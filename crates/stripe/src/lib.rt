@@ -6,6 +6,7 @@ ghost use lib.Count.{ones};
 ghost use lib.ListN.{length};
 ghost use Rattle.bits.specs.Bit.{bit};
 ghost use Rattle.codes.specs.Shape.{equations, cellNumber, stripeLength, WellFormed};
+ghost use Rattle.codes.specs.Geometry.{place};
 ghost use Rattle.codes.specs.Depends.{WriteRight};
 ghost use Rattle.codes.specs.Encoded.{brokenEquations};
 ghost use Rattle.stripe.specs.Encode.{EncodingOf, Encodes};
@@ -92,14 +93,13 @@ fn count_members(set: u64) -> usize
     u64::count_ones(set) as usize
 }
 
-// Writes new bytes into a data cell, by its row and its column as the equations number it, and brings the parity cells that depend on it up to date.
-// Answers how many these are.
-fn write_cell(shape: Shape, stripe: &mut [u8], row: usize, column: usize, new: &[u8]) -> usize
-    requires { ⌜ WriteRight shape (length (now stripe)) row column (length (now new)) ⌝ }
+// Writes new bytes into a data cell, by its row and its column as the equations number it, and where it starts, and brings the parity cells that
+// depend on it up to date. Answers how many these are.
+fn write_cell(shape: Shape, stripe: &mut [u8], row: usize, column: usize, from: usize, new: &[u8]) -> usize
+    requires { ⌜ WriteRight shape (length (now stripe)) row column (length (now new)) × (from ≡ place shape (cellNumber shape row column)) ⌝ }
     ensures { λ r. ⌜ Written shape (cellNumber shape row column) (now (stripe .entry)) (now (new .entry)) (now (stripe .exit))
         × Depending shape (cellNumber shape row column) r ⌝ }
 {
-    let from = codes::cell_place(shape, row, column);
     let set = codes::dependents_of(shape, row, column);
     spread(shape, stripe, set, from, new);
     xor::put_run(stripe, from, new);
@@ -116,5 +116,6 @@ pub fn write(shape: Shape, stripe: &mut [u8], row: usize, column: usize, new: &[
         return Counted::Refused(number);
     }
     let inside = codes::column_of(shape, column);
-    Counted::Count(write_cell(shape, stripe, row, inside, new))
+    let from = codes::lent_place(shape, row, column);
+    Counted::Count(write_cell(shape, stripe, row, inside, from, new))
 }
