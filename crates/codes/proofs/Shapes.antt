@@ -277,6 +277,13 @@ module _ (s : Shape) (w : WellFormed s) where
   unfolding missing
   missing-other n = none-missing (s .code) (s .p) (s .width) n (w .wide)
 
+  -- where a number of data columns is given
+  pub data-known : (m : ℕ) → s .width ≡ Data m → (missing s + m ≡ s .p - 1) × (s .code ≡ 1)
+  data-known m e = (
+    omega (arith, data-missing s m e, not-most (s .code) (s .p) m (s .width) e (w .wide)),
+    by-equal (s .code) 1 (λ z. z) (λ n. clash (sym (wrong-code (s .code) (s .p) m (s .width) e n)) (w .wide)),
+  )
+
   pub disks-is : disks s + missing s ≡ columns s
   unfolding disks
   disks-is = omega (arith, missing-low, few-columns)

@@ -1,6 +1,7 @@
 // Where the cells of a stripe lie in the lent buffer. What stands behind these functions, and the lines of the codes, is all that knows how
 // columns lie.
 use crate::Shape;
+use crate::Width;
 ghost use mathlib.Core.Path.{_≡_};
 ghost use mathlib.Core.Bool.{true};
 ghost use Prim.Native.Nat.{_<_};
@@ -12,7 +13,11 @@ pub fn data_columns(shape: Shape) -> usize
     requires { ⌜ WellFormed shape ⌝ }
     ensures { λ r. ⌜ r ≡ gap shape ⌝ }
 {
-    shape.p - 1 - crate::missing_count(shape)
+    let width = shape.width;
+    match width {
+        Width::Full => shape.p - 1,
+        Width::Data(m) => m,
+    }
 }
 
 // The column, as the equations number it, that lies at place d.
@@ -20,10 +25,14 @@ pub fn column_of(shape: Shape, d: usize) -> usize
     requires { ⌜ WellFormed shape × (d < disks shape) ⌝ }
     ensures { λ r. ⌜ r ≡ columnOf shape d ⌝ }
 {
-    if d < data_columns(shape) {
+    let width = shape.width;
+    let Width::Data(m) = width else {
+        return d;
+    };
+    if d < m {
         return d;
     }
-    d + crate::missing_count(shape)
+    d + (shape.p - 1 - m)
 }
 
 // Where column j, as the equations number it, lies.
@@ -31,10 +40,14 @@ pub fn lies_at(shape: Shape, j: usize) -> usize
     requires { ⌜ WellFormed shape × (j < columns shape) × (isThere shape j ≡ true) ⌝ }
     ensures { λ r. ⌜ r ≡ liesAt shape j ⌝ }
 {
-    if j < data_columns(shape) {
+    let width = shape.width;
+    let Width::Data(m) = width else {
+        return j;
+    };
+    if j < m {
         return j;
     }
-    j - crate::missing_count(shape)
+    j - (shape.p - 1 - m)
 }
 
 // The equations' number of the cell that a caller calls c.

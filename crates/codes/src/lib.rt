@@ -5,7 +5,7 @@ ghost use lib.Dec.{eqb};
 ghost use Prim.Native.Nat.{ℕ, _+_, _%_, _≤_, _<_};
 ghost use lib.ListN.{length, getD};
 ghost use Rattle.xor.specs.Runs.{Says};
-ghost use Rattle.codes.specs.Shape.{listed, rows, columns, cells, equations, cellNumber, missing, wrongData, disks, existing, stripeLength, WellFormed};
+ghost use Rattle.codes.specs.Shape.{listed, rows, columns, cells, equations, cellNumber, wrongData, disks, existing, stripeLength, WellFormed};
 ghost use Rattle.codes.specs.Geometry.{cellAt, callersCell, place};
 ghost use Rattle.codes.specs.Encoded.{parityCell, isParity};
 ghost use Rattle.codes.specs.Refusals.{refusal, codeFaults, sizeFaults, shapeFaults, stripeFaults, writeFaults, cellsFaults, columnsFaults};
@@ -118,24 +118,16 @@ pub fn row_count(shape: Shape) -> usize
     extent_of(shape).rows
 }
 
-// Data columns that don't exist.
-fn missing_count(shape: Shape) -> usize
-    requires { ⌜ WellFormed shape ⌝ }
-    ensures { λ r. ⌜ r ≡ missing shape ⌝ }
-{
-    let width = shape.width;
-    match width {
-        Width::Full => 0,
-        Width::Data(m) => shape.p - 1 - m,
-    }
-}
-
 // Columns that exist, each on a disk of its own.
 pub fn disk_count(shape: Shape) -> usize
     requires { ⌜ WellFormed shape ⌝ }
     ensures { λ r. ⌜ r ≡ disks shape ⌝ }
 {
-    extent_of(shape).columns - missing_count(shape)
+    let width = shape.width;
+    let Width::Data(m) = width else {
+        return extent_of(shape).columns;
+    };
+    m + 2
 }
 
 // Equations of a stripe.

@@ -1,24 +1,31 @@
--- `codes::disk_count` meets its contract. Columns as the equations number them, less those that don't exist.
+-- `codes::disk_count` meets its contract. All columns exist, or the data columns that are given and two more.
+use mathlib.Core.Path.{_≡_, sym, ap, _∙_}
+use Prim.Native.Nat.{ℕ, _+_, _-_}
 use native.Mathlib.Omega.{arith}
-use Rattle.codes.proofs.Shapes.{missing-low, few-columns, disks-of}
+use Rattle.codes.proofs.Shapes.{low, high, full-missing, data-known, disks-is, rdp-is, columns-of}
+use Rattle.codes.specs.Equations.{rdp}
 use borrow.Author.Needs.{needs}
 use Rattle.codes.proofs.disk_count.Statement.{statement}
 use Rattle.codes.proofs.disk_count.Tie as tie
 
+enum-known-width : tie.Need-enum-known-width
+enum-known-width c = search needs
+
+enum-told : tie.Need-enum-told
+enum-told c = search needs
+
 extent-of-requires : tie.Need-extent-of-requires
 extent-of-requires c κs = search needs
 
-missing-count-requires : tie.Need-missing-count-requires
-missing-count-requires c κs = search needs
-
-sub-result : tie.Need-sub-result
-sub-result c =
-    let s = c .before .before .before .args .shape in
-    let w = c .before .before .before .pre in
-    omega (arith, c .before .missing-count .ensures, c .before .before .extent-of .ensures .1, missing-low s w, few-columns s w)
-
 returns : tie.Need-returns
-returns c = disks-of (c .before .before .before .args .shape) _ _ (c .before .before .extent-of .ensures .1) (c .before .missing-count .ensures)
+returns c = omega (arith, c .extent-of .ensures .1, disks-is (c .before .before .before .args .shape) (c .before .before .before .pre), full-missing (c .before .before .before .args .shape) (c .before .enum-told .given .1))
+
+add-result : tie.Need-add-result
+add-result c = omega (arith, data-known (c .before .before .before .args .shape) (c .before .before .before .pre) _ (c .before .width .given .1) .0, high (c .before .before .before .args .shape) (c .before .before .before .pre))
+
+returns-2 : tie.Need-returns-2
+returns-2 c = let k = data-known (c .before .before .before .args .shape) (c .before .before .before .pre) _ (c .before .width .given .1) in omega (arith, k .0, disks-is (c .before .before .before .args .shape) (c .before .before .before .pre), low (c .before .before .before .args .shape) (c .before .before .before .pre), columns-of (c .before .before .before .args .shape) (rdp (c .before .before .before .args .shape .p)) (rdp-is (c .before .before .before .args .shape) (k .1)))
 
 pub disk-count-spec : {M : Type 1} → statement M
-disk-count-spec = tie.close (tie.spec extent-of-requires missing-count-requires sub-result returns)
+disk-count-spec =
+    tie.close (tie.spec enum-known-width enum-told extent-of-requires returns add-result returns-2)
