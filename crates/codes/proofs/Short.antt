@@ -79,8 +79,8 @@ module _ (s : Shape) (w : WellFormed s) (is-rdp : s .code ≡ 1) where
 
   -- ---- rows
 
-  pub row-walks : (q : ℕ) → q < s .p - 1 → (l : Line) → l .count ≡ gap s → l .first ≡ q → l .step ≡ s .p - 1 → l .turn ≡ 0 → l .second ≡ 0 → l .extra ≡ 0 → Walks s q l
-  row-walks q lq l count first step turn second extra =
+  pub row-walks : (q : ℕ) → q < s .p - 1 → (l : Line) → l .to ≡ callersCell s (parityCell s q) → l .count ≡ gap s → l .first ≡ q → l .step ≡ s .p - 1 → l .turn ≡ 0 → l .second ≡ 0 → l .extra ≡ 0 → Walks s q l
+  row-walks q lq l to count first step turn second extra =
       goes-walks s w q l (λ k. k) (λ k. q)
       (record {
         in-row = λ k lk. omega (arith, height);
@@ -97,7 +97,7 @@ module _ (s : Shape) (w : WellFormed s) (is-rdp : s .code ≡ 1) where
         once = λ j k lj lk e a. a;
         at = λ k lk. cell-walked l k (omega (arith, many)) ∙ walk-is l (rows s) (λ k. k) (λ k. q) (first ∙ (let z : q ≡ 0 * rows s + q = omega (arith, zero-mul (rows s)) in z)) (λ k lk e. absurd (omega arith)) (λ k lk e. (omega arith, omega (arith, height))) k (omega (arith, many));
       })
-      (omega (arith, m-low)) (omega (arith, m-high, high s w)) (omega (arith, high s w)) (omega arith)
+      to (omega (arith, m-low)) (omega (arith, m-high, high s w)) (omega (arith, high s w)) (omega arith)
     where
       many : lineCount l ≡ m
       many = count-plain l extra ∙ count
@@ -210,8 +210,8 @@ module _ (s : Shape) (w : WellFormed s) (is-rdp : s .code ≡ 1) where
           plenty : l .count ≤ lineCount l
           plenty = by-equal (d + 1) n (λ e. omega (arith, lonely e)) (λ e. omega (arith, one-more e))
 
-      pub diagonal-walks : (q : ℕ) → s .p - 1 + d ≡ q → Walks s q l
-      diagonal-walks q known =
+      pub diagonal-walks : (q : ℕ) → s .p - 1 + d ≡ q → l .to ≡ callersCell s (parityCell s q) → Walks s q l
+      diagonal-walks q known to =
           subst (λ (r : ℕ). Walks s r l) known (goes-walks s w (s .p - 1 + d) l u i
           (record {
             in-row = λ k lk. omega (arith, on k lk .0, height);
@@ -232,7 +232,7 @@ module _ (s : Shape) (w : WellFormed s) (is-rdp : s .code ≡ 1) where
                 (λ z. by-equal (d + 1) n (λ e. absurd (omega (arith, lonely e)))
                 (λ e. cell-extra l k z ∙ parity-extra e ∙ sym (ap₂ (λ (a b : ℕ). a * rows s + b) (corner k z .0) (corner k z .1) ∙ ap (λ (a : ℕ). m * a + (d + 1)) (sym height))));
           })
-          some (omega (arith, most, m-high, high s w)) (omega (arith, high s w)) (omega (arith, small-cells (d + 2) (omega (arith, high s w)), high s w)))
+          (to ∙ ap (λ (r : ℕ). callersCell s (parityCell s r)) (sym known)) some (omega (arith, most, m-high, high s w)) (omega (arith, high s w)) (omega (arith, small-cells (d + 2) (omega (arith, high s w)), high s w)))
         where
           same : (j k : ℕ) → j < lineCount l → k < lineCount l → u j ≡ u k → j ≡ k
           same j k lj lk a = by-cell j lj

@@ -16,7 +16,7 @@ use Rattle.codes.specs.declared.Shape.{Shape}
 use Rattle.codes.specs.declared.Line.{Line}
 use Rattle.codes.specs.Shape.{rows, columns, cells, disks, cellNumber, WellFormed}
 use Rattle.codes.specs.Geometry.{isThere, cellThere, columnOf, liesAt, callersCell}
-use Rattle.codes.specs.Encoded.{sumsCell, sumOver}
+use Rattle.codes.specs.Encoded.{parityCell, sumsCell, sumOver}
 use Rattle.codes.specs.Lines.{walked, Short, lineCount, lineCell, Walks}
 use Rattle.codes.proofs.Shapes.{existing-high, cells-high}
 use Rattle.codes.proofs.Positions.{cell-inside, same-row, same-column}
@@ -121,9 +121,10 @@ module _ (s : Shape) (w : WellFormed s) (q : ℕ) (l : Line) where
     small : (k : ℕ) → k < lineCount l → lineCell l k ≤ 1024
     small k lk = omega (arith, at-callers k lk, callers-inside s w (cell k) (inside k lk) (there k lk), existing-high s w, cells-high s w)
 
-    pub goes-walks : 1 ≤ l .count → l .count ≤ 30 → l .step ≤ 1024 → l .second ≤ 1024 → Walks s q l
+    pub goes-walks : l .to ≡ callersCell s (parityCell s q) → 1 ≤ l .count → l .count ≤ 30 → l .step ≤ 1024 → l .second ≤ 1024 → Walks s q l
     unfolding walked
-    goes-walks some few step second = record {
+    goes-walks to some few step second = record {
+      to = to;
       short = record { few = few; first = omega (arith, walked-small 0 some); step = step; second = second; extra = extra-small; at = walked-small };
       cell = cell;
       inside = inside;

@@ -20,7 +20,7 @@ use Rattle.codes.specs.declared.Sources.{Sources}
 use Rattle.codes.specs.Shape.{cells, equations, stripeLength, WellFormed}
 use Rattle.codes.specs.Geometry.{callersCell, place}
 use Rattle.codes.specs.Encoded.{parityCell, sumsCell, byteAt, sumOver, total}
-use Rattle.codes.specs.Lines.{walked, Short, lineCount, lineCell, Walks, Placed, Summing, Found, Holding}
+use Rattle.codes.specs.Lines.{walked, Short, lineCount, lineCell, Walks, Placed, PlacedAll, Found, Holding}
 use Rattle.codes.proofs.Ordered.{ordered}
 use Rattle.codes.proofs.Geometry.{place-inside, place-small, place-apart, parity-there, byte-there, byte-missing}
 use Rattle.codes.proofs.Stepping.{walked-next, count-plain, count-extra, cell-walked, cell-extra}
@@ -29,7 +29,7 @@ use Rattle.codes.proofs.Stepping.{walked-next, count-plain, count-extra
 
 -- a line by its numbers alone
 abbrev pub line : ℕ → ℕ → ℕ → ℕ → Line
-line first step turn second = record { count = 0; first = first; step = step; turn = turn; second = second; extra = 0 }
+line first step turn second = record { to = 0; count = 0; first = first; step = step; turn = turn; second = second; extra = 0 }
 
 -- the code has filled in the places of the first k cells, and stands at cell k
 pub record Filled (l : Line) (count : ℕ) (places : List ℕ) (at k : ℕ) : Type 0 where
@@ -78,44 +78,24 @@ module _ (s : Shape) (w : WellFormed s) (l : Line) where
   pub all-placed : (places : List ℕ) (at k : ℕ) → Filled inBytes (l .count) places at k → l .count ≤ k → Placed s l places
   all-placed places at k f lk = record { long = f .long; at = λ j lj. f .done j (omega arith) ∙ bytes-walked j }
 
--- ---- the cells that an equation sums: those that its line walks, and the extra one
+-- ---- all cells of a line: those that it walks, and the extra one
 
-module _ (s : Shape) (w : WellFormed s) (q : ℕ) (l : Line) (h : Walks s q l) (places : List ℕ) (at : Placed s l places) where
-  at-line : (k : ℕ) → k < lineCount l → (x : ℕ) → x ≡ lineCell l k * s .cell → x ≡ place s (h .cell k)
-  unfolding place
-  at-line k lk x e = e ∙ ap (λ (c : ℕ). c * s .cell) (h .at k lk)
-
-  pub summing-plain : l .extra ≡ 0 → Summing s q (l .count) places
-  summing-plain e = record {
-    few = omega (arith, h .short .few);
+module _ (s : Shape) (l : Line) (places : List ℕ) (at : Placed s l places) where
+  pub all-plain : l .extra ≡ 0 → PlacedAll s l (l .count) places
+  all-plain e = record {
+    all = sym (count-plain l e);
     long = at .long;
-    cell = h .cell;
-    inside = λ k lk. h .inside k (omega (arith, many));
-    there = λ k lk. h .there k (omega (arith, many));
-    at = λ k lk. at-line k (omega (arith, many)) _ (at .at k lk ∙ ap (λ (c : ℕ). c * s .cell) (sym (cell-walked l k lk)));
-    summed = λ k lk. h .summed k (omega (arith, many));
-    sum = λ f blank. h .sum f blank ∙ ap (λ (n : ℕ). xors n (λ k. f (h .cell k))) many;
+    at = λ k lk. at .at k lk ∙ ap (λ (c : ℕ). c * s .cell) (sym (cell-walked l k lk));
   }
-    where
-      many : lineCount l ≡ l .count
-      many = count-plain l e
 
-  pub summing-extra : l .extra ≢ 0 → Summing s q (l .count + 1) (set places (l .count) (l .extra * s .cell))
-  summing-extra e = record {
-    few = omega (arith, h .short .few);
+  pub all-extra : l .count ≤ 30 → l .extra ≢ 0 → PlacedAll s l (l .count + 1) (set places (l .count) (l .extra * s .cell))
+  all-extra few e = record {
+    all = sym (count-extra l e);
     long = length-set places (l .count) (l .extra * s .cell) ∙ at .long;
-    cell = h .cell;
-    inside = λ k lk. h .inside k (omega (arith, many));
-    there = λ k lk. h .there k (omega (arith, many));
     at = λ k lk. by-equal k (l .count)
-        (λ z. at-line k (omega (arith, many)) _ (ap (λ (j : ℕ). getD (set places (l .count) (l .extra * s .cell)) j 0) z ∙ getD-set-same places (l .count) (l .extra * s .cell) 0 (omega (arith, at .long, h .short .few)) ∙ ap (λ (c : ℕ). c * s .cell) (sym (cell-extra l k (omega arith)))))
-        (λ z. let lk′ : k < l .count = omega arith in at-line k (omega (arith, many)) _ (getD-set-other places (l .count) k (l .extra * s .cell) 0 z ∙ at .at k lk′ ∙ ap (λ (c : ℕ). c * s .cell) (sym (cell-walked l k lk′))));
-    summed = λ k lk. h .summed k (omega (arith, many));
-    sum = λ f blank. h .sum f blank ∙ ap (λ (n : ℕ). xors n (λ k. f (h .cell k))) many;
+        (λ z. ap (λ (j : ℕ). getD (set places (l .count) (l .extra * s .cell)) j 0) z ∙ getD-set-same places (l .count) (l .extra * s .cell) 0 (omega (arith, at .long)) ∙ ap (λ (c : ℕ). c * s .cell) (sym (cell-extra l k (omega arith))))
+        (λ z. let lk′ : k < l .count = omega arith in getD-set-other places (l .count) k (l .extra * s .cell) 0 z ∙ at .at k lk′ ∙ ap (λ (c : ℕ). c * s .cell) (sym (cell-walked l k lk′)));
   }
-    where
-      many : lineCount l ≡ l .count + 1
-      many = count-extra l e
 
 -- ---- the parity cell, and those that its equation sums
 
@@ -127,26 +107,41 @@ module _ (s : Shape) (w : WellFormed s) (q : ℕ) (lq : q < equations s) where
   pub parity-small : place s (parityCell s q) ≤ 3936256
   parity-small = place-small s w (parityCell s q) (ordered s w .inside q lq) (parity-there s w q lq)
 
-  module _ (n : ℕ) (places : List ℕ) (h : Summing s q n places) (to : ℕ) (to-is : to ≡ place s (parityCell s q)) where
+  module _ (l : Line) (h : Walks s q l) (n : ℕ) (places : List ℕ) (p : PlacedAll s l n places) where
+    at-place : (k : ℕ) → k < n → getD places k 0 ≡ place s (h .cell k)
+    unfolding place
+    at-place k lk = p .at k lk ∙ ap (λ (c : ℕ). c * s .cell) (h .at k (omega (arith, p .all)))
+
     -- the parity cell is none of those that its equation sums
     parity-apart : (k : ℕ) → k < n → h .cell k ≢ parityCell s q
-    parity-apart k lk e = clash (h .summed k lk) (ap (sumsCell s q) e ∙ ordered s w .unsummed q q (omega arith) lq)
+    parity-apart k lk e = clash (h .summed k (omega (arith, p .all))) (ap (sumsCell s q) e ∙ ordered s w .unsummed q q (omega arith) lq)
 
     byte-of : (stripe : List ℕ) (t k : ℕ) → k < n → getD stripe (getD places k 0 + t) 0 ≡ byteAt s stripe (h .cell k) t
-    byte-of stripe t k lk = ap (λ (x : ℕ). getD stripe (x + t) 0) (h .at k lk) ∙ sym (byte-there s w stripe (h .cell k) t (h .there k lk))
+    byte-of stripe t k lk = ap (λ (x : ℕ). getD stripe (x + t) 0) (at-place k lk) ∙ sym (byte-there s w stripe (h .cell k) t (h .there k (omega (arith, p .all))))
 
-    pub found : Found s q (record { to = to; count = n }) places
+    few : n ≤ 31
+    few = by-equal (l .extra) 0 (λ e. omega (arith, p .all, count-plain l e, h .short .few)) (λ e. omega (arith, p .all, count-extra l e, h .short .few))
+
+    to : ℕ
+    to = l .to * s .cell
+
+    to-is : to ≡ place s (parityCell s q)
+    unfolding to
+    to-is = parity-at (l .to) (h .to)
+
+    pub found : Found s q (record { to = l .to * s .cell; count = n }) places
+    unfolding to
     found = record {
       to = to-is;
-      few = omega (arith, h .few);
-      long = h .long;
+      few = omega (arith, few);
+      long = p .long;
       ends = subst (λ (x : ℕ). x + s .cell ≤ stripeLength s) (sym to-is) (place-inside s w (parityCell s q) (ordered s w .inside q lq) (parity-there s w q lq));
-      inside = λ k lk. subst (λ (x : ℕ). x + s .cell ≤ stripeLength s) (sym (h .at k lk)) (place-inside s w (h .cell k) (h .inside k lk) (h .there k lk));
-      apart = λ k lk. subst (λ (x : ℕ). (x + s .cell ≤ to) ⊎ (to + s .cell ≤ x)) (sym (h .at k lk))
-          (subst (λ (y : ℕ). (place s (h .cell k) + s .cell ≤ y) ⊎ (y + s .cell ≤ place s (h .cell k))) (sym to-is) (place-apart s w (h .cell k) (parityCell s q) (h .there k lk) (parity-there s w q lq) (parity-apart k lk)));
+      inside = λ k lk. subst (λ (x : ℕ). x + s .cell ≤ stripeLength s) (sym (at-place k lk)) (place-inside s w (h .cell k) (h .inside k (omega (arith, p .all))) (h .there k (omega (arith, p .all))));
+      apart = λ k lk. subst (λ (x : ℕ). (x + s .cell ≤ to) ⊎ (to + s .cell ≤ x)) (sym (at-place k lk))
+          (subst (λ (y : ℕ). (place s (h .cell k) + s .cell ≤ y) ⊎ (y + s .cell ≤ place s (h .cell k))) (sym to-is) (place-apart s w (h .cell k) (parityCell s q) (h .there k (omega (arith, p .all))) (parity-there s w q lq) (parity-apart k lk)));
       sum = λ stripe t.
           xors-same n (λ k. getD stripe (getD places k 0 + t) 0) (λ k. byteAt s stripe (h .cell k) t) (byte-of stripe t)
-          ∙ sym (h .sum (λ c. byteAt s stripe c t) (λ c none. byte-missing s w stripe c t none));
+          ∙ ap (λ (m : ℕ). xors m (λ k. byteAt s stripe (h .cell k) t)) (p .all) ∙ sym (h .sum (λ c. byteAt s stripe c t) (λ c none. byte-missing s w stripe c t none));
     }
 
 -- the place of the parity cell behind the others

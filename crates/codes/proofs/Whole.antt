@@ -54,8 +54,8 @@ module _ (s : Shape) (w : WellFormed s) where
           → ((j k : ℕ) → j < l .count → k < l .count → i j ≡ i k → u j ≡ u k → j ≡ k)
           → l .first ≡ u 0 * rows s + i 0 → ((k : ℕ) → suc k < l .count → suc k ≡ l .turn → l .second ≡ u (suc k) * rows s + i (suc k))
           → ((k : ℕ) → suc k < l .count → suc k ≢ l .turn → (u (suc k) ≡ u k + 1) × (i (suc k) + rows s ≡ i k + l .step))
-          → 1 ≤ l .count → l .count ≤ 30 → l .step ≤ 1024 → l .second ≤ 1024 → Walks s q l
-      whole-walks on every once first turned next some few step second =
+          → l .to ≡ callersCell s (parityCell s q) → 1 ≤ l .count → l .count ≤ 30 → l .step ≤ 1024 → l .second ≤ 1024 → Walks s q l
+      whole-walks on every once first turned next to some few step second =
           goes-walks s w q l u i
           (record {
             in-row = λ k lk. on k (omega (arith, many)) .0;
@@ -65,7 +65,7 @@ module _ (s : Shape) (w : WellFormed s) where
             once = λ j k lj lk. once j k (omega (arith, many)) (omega (arith, many));
             at = λ k lk. let lk′ : k < l .count = omega (arith, many) in cell-walked l k lk′ ∙ walk-is l (rows s) u i first turned next k lk′;
           })
-          some few step second
+          to some few step second
         where
           many : lineCount l ≡ l .count
           many = count-plain l extra
@@ -109,8 +109,19 @@ module _ (s : Shape) (w : WellFormed s) where
     tall : s .p - 1 ≡ rows s
     tall = hcode-rows s w is-hcode
 
-    pub hcode-row-walks : (q : ℕ) → q < s .p - 1 → (l : Line) → l .count ≡ s .p - 1 → l .first ≡ q → l .step ≡ s .p - 1 → l .turn ≡ q + 1 → l .second ≡ (q + 2) * (s .p - 1) + q → l .extra ≡ 0 → Walks s q l
-    hcode-row-walks q lq l count first step turn second extra =
+    -- where parity cells lie
+    pub hcode-row-lies : (q : ℕ) → q < s .p - 1 → s .p * (s .p - 1) + q ≡ callersCell s (parityCell s q)
+    hcode-row-lies q lq = whole-at not-rdp q q (s .p) (s .p - 1) tall (omega (arith, tall)) (hcode-first s w is-hcode q lq)
+
+    pub hcode-anti-lies : (q : ℕ) → s .p - 1 ≤ q → q < equations s → (q - (s .p - 1) + 1) * (s .p - 1) + (q - (s .p - 1)) ≡ callersCell s (parityCell s q)
+    hcode-anti-lies q lo hi =
+        whole-at not-rdp q (q - (s .p - 1)) (q - (s .p - 1) + 1) (s .p - 1) tall (omega (arith, tall, rest)) (ap (parityCell s) (let same : q ≡ s .p - 1 + (q - (s .p - 1)) = omega arith in same) ∙ hcode-second s w is-hcode (q - (s .p - 1)) rest)
+      where
+        rest : q - (s .p - 1) < s .p - 1
+        rest = omega (arith, hcode-n s w is-hcode)
+
+    pub hcode-row-walks : (q : ℕ) → q < s .p - 1 → (l : Line) → l .to ≡ callersCell s (parityCell s q) → l .count ≡ s .p - 1 → l .first ≡ q → l .step ≡ s .p - 1 → l .turn ≡ q + 1 → l .second ≡ (q + 2) * (s .p - 1) + q → l .extra ≡ 0 → Walks s q l
+    hcode-row-walks q lq l to count first step turn second extra =
         whole-walks not-rdp q (hcodeRow (s .p) q) (hcode-row-is s w is-hcode q lq) l extra (skip q) (λ k. q)
         (λ k lk. (
           omega (arith, tall),
@@ -127,7 +138,7 @@ module _ (s : Shape) (w : WellFormed s) where
         (first ∙ (let z : q ≡ 0 * rows s + q = omega (arith, zero-mul (rows s)) in z) ∙ ap (λ (x : ℕ). x * rows s + q) (sym (before q 0 (omega arith))))
         (λ k lk e. second ∙ ap₂ (λ (x y : ℕ). x * y + q) (let z : q + 2 ≡ suc k + 1 = omega arith in z) tall ∙ ap (λ (x : ℕ). x * rows s + q) (sym (behind q (suc k) (omega arith))))
         (λ k lk e. (onward q k (λ z. e (omega arith)), omega (arith, tall)))
-        (omega (arith, low s w)) (omega (arith, high s w)) (omega (arith, high s w)) (omega (arith, small-columns (q + 2) (s .p - 1) (omega (arith, high s w)) (omega arith), high s w))
+        to (omega (arith, low s w)) (omega (arith, high s w)) (omega (arith, high s w)) (omega (arith, small-columns (q + 2) (s .p - 1) (omega (arith, high s w)) (omega arith), high s w))
       where
         ends : (r k : ℕ) {y : ℕ} → k ≤ y → skip r k ≡ y → y < s .p → r < s .p - 1 → l .count ≡ s .p - 1 → k < l .count
         ends r k ky e ly lr c = by-less k (r + 1) (λ a. omega (arith, before r k a)) (λ a. omega (arith, behind r k a))
@@ -156,9 +167,9 @@ module _ (s : Shape) (w : WellFormed s) where
       row-low : (k : ℕ) → k < s .p - 1 → row r k < s .p - 1
       row-low k lk = by-less k (r + 1) (λ a. omega (arith, row-before r k a)) (λ a. omega (arith, row-behind r k a))
 
-      pub hcode-anti-walks : (q : ℕ) → equation s q ≡ hcodeAntiDiagonal (s .p) r → (l : Line) → l .count ≡ s .p - 1 → l .first ≡ s .p - 1 - 1 - r → l .step ≡ s .p - 1 + 1 → l .turn ≡ r + 1
+      pub hcode-anti-walks : (q : ℕ) → equation s q ≡ hcodeAntiDiagonal (s .p) r → (l : Line) → l .to ≡ callersCell s (parityCell s q) → l .count ≡ s .p - 1 → l .first ≡ s .p - 1 - 1 - r → l .step ≡ s .p - 1 + 1 → l .turn ≡ r + 1
           → l .second ≡ (r + 2) * (s .p - 1) → l .extra ≡ 0 → Walks s q l
-      hcode-anti-walks q is l count first step turn second extra =
+      hcode-anti-walks q is l to count first step turn second extra =
           whole-walks not-rdp q (hcodeAntiDiagonal (s .p) r) is l extra (skip r) (row r)
           (λ k lk. (
             omega (arith, row-low k (omega arith), tall),
@@ -182,7 +193,7 @@ module _ (s : Shape) (w : WellFormed s) where
                 (λ a. omega (arith, row-before r (suc k) a, row-before r k (omega arith), tall))
                 (λ a. omega (arith, row-behind r (suc k) a, row-behind r k (omega arith), tall)),
           ))
-          (omega (arith, low s w)) (omega (arith, high s w)) (omega (arith, high s w)) (omega (arith, small-columns (r + 2) (s .p - 1) (omega (arith, high s w)) (omega arith)))
+          to (omega (arith, low s w)) (omega (arith, high s w)) (omega (arith, high s w)) (omega (arith, small-columns (r + 2) (s .p - 1) (omega (arith, high s w)) (omega arith)))
         where
           ends : (k : ℕ) {y : ℕ} → k ≤ y → skip r k ≡ y → y < s .p → k < s .p - 1
           ends k ky e ly = by-less k (r + 1) (λ a. omega (arith, before r k a)) (λ a. omega (arith, behind r k a))
@@ -215,13 +226,21 @@ module _ (s : Shape) (w : WellFormed s) where
     square : s .p ≡ rows s
     square = xcode-rows s w is-xcode
 
+    -- where parity cells lie
+    pub xcode-first-lies : (q : ℕ) → q < s .p → q * s .p + (s .p - 2) ≡ callersCell s (parityCell s q)
+    xcode-first-lies q lq = whole-at not-rdp′ q (s .p - 2) q (s .p) square (omega (arith, low s w, square)) (xcode-first-at s w is-xcode q lq)
+
+    pub xcode-second-lies : (q : ℕ) → s .p ≤ q → q < equations s → (q - s .p) * s .p + (s .p - 1) ≡ callersCell s (parityCell s q)
+    xcode-second-lies q lo hi =
+        whole-at not-rdp′ q (s .p - 1) (q - s .p) (s .p) square (omega (arith, low s w, square)) (ap (parityCell s) (let same : q ≡ s .p + (q - s .p) = omega arith in same) ∙ xcode-second-at s w is-xcode (q - s .p) (omega (arith, xcode-n s w is-xcode)))
+
     -- a family whose line is in row i k at cell k, which is one row of each below p - 2
     module _ (q row c : ℕ) (at : ℕ → ℕ) (is : equation s q ≡ record { row = row; column = c; sums = λ x y. ltb x (s .p - 2) && eqb y (at x) }) (l : Line) (count : l .count ≡ s .p - 2)
         (column : ℕ) (lc : column < s .p) (turn : l .turn ≡ s .p - column) (extra : l .extra ≡ 0) (i : ℕ → ℕ) (low-i : (k : ℕ) → k < s .p - 2 → i k < s .p - 2) (back : (k : ℕ) → k < s .p - 2 → i (i k) ≡ k)
         (goes : (k : ℕ) → k < s .p - 2 → (column + k) % s .p ≡ at (i k)) where
       family : l .first ≡ column * s .p + i 0 → ((k : ℕ) → suc k < s .p - 2 → suc k ≡ l .turn → l .second ≡ i (suc k)) → ((k : ℕ) → suc k < s .p - 2 → i (suc k) + s .p ≡ i k + l .step)
-          → l .step ≤ 1024 → l .second ≤ 1024 → Walks s q l
-      family first second next step small =
+          → l .to ≡ callersCell s (parityCell s q) → l .step ≤ 1024 → l .second ≤ 1024 → Walks s q l
+      family first second next to step small =
           whole-walks not-rdp′ q (record { row = row; column = c; sums = λ x y. ltb x (s .p - 2) && eqb y (at x) }) is l extra (around column) i
           (λ k lk. let lk′ : k < s .p - 2 = omega arith in
           (omega (arith, low-i k lk′, square), omega (arith, around-is column k lc (omega arith), below-mod (column + k), xcode-columns s w is-xcode), and-both (lt-ltb (i k) (s .p - 2) (low-i k lk′)) (eq-eqb (around column k) (at (i k)) (around-is column k lc (omega arith) ∙ goes k lk′))))
@@ -232,23 +251,23 @@ module _ (s : Shape) (w : WellFormed s) where
           (first ∙ ap₂ (λ (x y : ℕ). x * y + i 0) (sym (near column 0 (omega arith) ∙ (let z : column + 0 ≡ column = omega arith in z))) square)
           (λ k lk e. second k (omega arith) e ∙ (let z : i (suc k) ≡ 0 * rows s + i (suc k) = omega (arith, zero-mul (rows s)) in z) ∙ ap (λ (x : ℕ). x * rows s + i (suc k)) (sym (far column (suc k) (omega arith) ∙ (let z : suc k - (s .p - column) ≡ 0 = omega arith in z))))
           (λ k lk e. (by-less (suc k) (s .p - column) (λ a. omega (arith, near column (suc k) a, near column k (omega arith))) (λ a. omega (arith, far column (suc k) a, far column k (omega arith))), omega (arith, next k (omega arith), square)))
-          (omega (arith, low s w)) (omega (arith, high s w)) step small
+          to (omega (arith, low s w)) (omega (arith, high s w)) step small
 
-    pub xcode-first-walks : (q column : ℕ) → q < s .p → column ≡ (q + 2) % s .p → (l : Line) → l .count ≡ s .p - 2 → l .first ≡ column * s .p → l .step ≡ s .p + 1 → l .turn ≡ s .p - column → l .second ≡ s .p - column → l .extra ≡ 0 → Walks s q l
-    xcode-first-walks q column lq starts l count first step turn second extra =
+    pub xcode-first-walks : (q column : ℕ) → q < s .p → column ≡ (q + 2) % s .p → (l : Line) → l .to ≡ callersCell s (parityCell s q) → l .count ≡ s .p - 2 → l .first ≡ column * s .p → l .step ≡ s .p + 1 → l .turn ≡ s .p - column → l .second ≡ s .p - column → l .extra ≡ 0 → Walks s q l
+    xcode-first-walks q column lq starts l to count first step turn second extra =
         family q (s .p - 2) q (λ k. (q + k + 2) % s .p) (xcode-first-is s w is-xcode q lq) l count column below turn extra (λ k. k) (λ k lk. lk) (λ k lk. refl)
         (λ k lk. ap (λ (x : ℕ). (x + k) % s .p) starts ∙ mod-add-mod (q + 2) (s .p) k ∙ ap (λ (x : ℕ). x % s .p) (let z : q + 2 + k ≡ q + k + 2 = omega arith in z))
-        (first ∙ (let z : column * s .p ≡ column * s .p + 0 = omega arith in z)) (λ k lk e. second ∙ sym turn ∙ sym e) (λ k lk. omega arith) (omega (arith, high s w)) (omega (arith, high s w))
+        (first ∙ (let z : column * s .p ≡ column * s .p + 0 = omega arith in z)) (λ k lk e. second ∙ sym turn ∙ sym e) (λ k lk. omega arith) to (omega (arith, high s w)) (omega (arith, high s w))
       where
         below : column < s .p
         below = omega (arith, starts, below-mod (q + 2))
 
-    pub xcode-second-walks : (q column : ℕ) → s .p ≤ q → q < equations s → column ≡ (q - s .p + 1) % s .p → (l : Line) → l .count ≡ s .p - 2 → l .first ≡ column * s .p + (s .p - 3) → l .step ≡ s .p - 1
+    pub xcode-second-walks : (q column : ℕ) → s .p ≤ q → q < equations s → column ≡ (q - s .p + 1) % s .p → (l : Line) → l .to ≡ callersCell s (parityCell s q) → l .count ≡ s .p - 2 → l .first ≡ column * s .p + (s .p - 3) → l .step ≡ s .p - 1
         → l .turn ≡ s .p - column → l .second ≡ column - 3 → l .extra ≡ 0 → Walks s q l
-    xcode-second-walks q column lo hi starts l count first step turn second extra =
+    xcode-second-walks q column lo hi starts l to count first step turn second extra =
         family q (s .p - 1) (q - s .p) (λ k. (s .p + (q - s .p) - k - 2) % s .p) (xcode-second-is s w is-xcode q lo) l count column below turn extra (λ k. s .p - 3 - k) (λ k lk. omega (arith, low s w)) (λ k lk. twice k lk)
         (λ k lk. ap (λ (x : ℕ). (x + k) % s .p) starts ∙ mod-add-mod (q - s .p + 1) (s .p) k ∙ ap (λ (x : ℕ). x % s .p) (up k lk))
-        (first ∙ ap (λ (x : ℕ). column * s .p + x) (let z : s .p - 3 ≡ s .p - 3 - 0 = omega arith in z)) (λ k lk e. second ∙ (let z : column - 3 ≡ s .p - 3 - suc k = omega (arith, turn) in z)) (λ k lk. one-up (s .p) k (l .step) lk step) (omega (arith, high s w)) (omega (arith, below, high s w))
+        (first ∙ ap (λ (x : ℕ). column * s .p + x) (let z : s .p - 3 ≡ s .p - 3 - 0 = omega arith in z)) (λ k lk e. second ∙ (let z : column - 3 ≡ s .p - 3 - suc k = omega (arith, turn) in z)) (λ k lk. one-up (s .p) k (l .step) lk step) to (omega (arith, high s w)) (omega (arith, below, high s w))
       where
         below : column < s .p
         below = omega (arith, starts, below-mod (q - s .p + 1))

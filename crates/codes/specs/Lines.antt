@@ -35,9 +35,10 @@ lineCount l = cond (eqb (l .extra) 0) (l .count) (l .count + 1)
 unfoldable pub lineCell : Line → ℕ → ℕ
 lineCell l k = cond (ltb k (l .count)) (walked l k) (l .extra)
 
--- the line goes through the cells that equation q sums and that exist, once through each
+-- the line has the parity cell of equation q, and goes through the cells that it sums and that exist, once through each
 pub record Walks (s : Shape) (q : ℕ) (l : Line) : Type 0 where
   pub short : Short l
+  pub to : l .to ≡ callersCell s (parityCell s q)
   pub cell : ℕ → ℕ
   pub inside : (k : ℕ) → k < lineCount l → cell k < cells s
   pub there : (k : ℕ) → k < lineCount l → cellThere s (cell k) ≡ true
@@ -50,16 +51,11 @@ pub record Placed (s : Shape) (l : Line) (places : List ℕ) : Type 0 where
   pub long : length places ≡ 32
   pub at : (k : ℕ) → k < l .count → getD places k 0 ≡ walked l k * s .cell
 
--- the places begin with those of n cells, which are the cells that equation q sums and that exist
-pub record Summing (s : Shape) (q n : ℕ) (places : List ℕ) : Type 0 where
-  pub few : n ≤ 31
+-- the places begin with those of all cells of a line, and n is how many they are
+pub record PlacedAll (s : Shape) (l : Line) (n : ℕ) (places : List ℕ) : Type 0 where
+  pub all : n ≡ lineCount l
   pub long : length places ≡ 32
-  pub cell : ℕ → ℕ
-  pub inside : (k : ℕ) → k < n → cell k < cells s
-  pub there : (k : ℕ) → k < n → cellThere s (cell k) ≡ true
-  pub at : (k : ℕ) → k < n → getD places k 0 ≡ place s (cell k)
-  pub summed : (k : ℕ) → k < n → sumsCell s q (cell k) ≡ true
-  pub sum : (f : ℕ → ℕ) → ((c : ℕ) → cellThere s c ≡ false → f c ≡ 0) → sumOver s q f ≡ xors n (λ k. f (cell k))
+  pub at : (k : ℕ) → k < n → getD places k 0 ≡ lineCell l k * s .cell
 
 -- r has the place of the parity cell of equation q, and `places` begins with the places of the cells that it sums
 pub record Found (s : Shape) (q : ℕ) (r : Sources) (places : List ℕ) : Type 0 where

@@ -31,6 +31,7 @@ pub fn line(shape: Shape, q: usize) -> Line
     let n = shape.p - 1;
     if q < n {
         return Line {
+            to: shape.p * n + q,
             count: n,
             first: q,
             step: n,
@@ -41,6 +42,7 @@ pub fn line(shape: Shape, q: usize) -> Line
     }
     let r = q - n;
     Line {
+        to: (r + 1) * n + r,
         count: n,
         first: n - 1 - r,
         step: n + 1,

@@ -9,7 +9,7 @@ ghost use Rattle.codes.specs.Shape.{listed, rows, columns, cells, equati
 ghost use Rattle.codes.specs.Geometry.{cellAt, callersCell, place};
 ghost use Rattle.codes.specs.Encoded.{parityCell, isParity};
 ghost use Rattle.codes.specs.Refusals.{refusal, codeFaults, sizeFaults, shapeFaults, stripeFaults, writeFaults, cellsFaults, columnsFaults};
-ghost use Rattle.codes.specs.Lines.{Short, Walks, Placed, Summing, Found, Holding};
+ghost use Rattle.codes.specs.Lines.{Short, Walks, Placed, PlacedAll, Found, Holding};
 ghost use Rattle.codes.specs.Depends.{DataCell, DependOn};
 ghost use Rattle.codes.specs.Holders.{HeldBy, Named};
 
@@ -63,9 +63,10 @@ struct Extent {
     equations: usize,
 }
 
-// The cells whose XOR an equation's parity cell is, numbered as they lie: `count` of them from `first` on, each `step` cells past the one before,
-// but cell `turn`, which is `second`; and the cell `extra`, if that is not 0.
+// An equation's cells, numbered as they lie: its parity cell `to`, and those whose XOR that is: `count` of them from `first` on, each `step` cells past
+// the one before, but cell `turn`, which is `second`; and the cell `extra`, if that is not 0.
 struct Line {
+    to: usize,
     count: usize,
     first: usize,
     step: usize,
@@ -289,12 +290,11 @@ fn place_cells(shape: Shape, l: Line, places: &mut [usize; PLACES])
     }
 }
 
-// Fills in where the cells start whose XOR the parity cell of equation q is, and answers how many they are.
-fn list_sources(shape: Shape, q: usize, places: &mut [usize; PLACES]) -> usize
-    requires { ⌜ WellFormed shape × (q < equations shape) × (length (now places) ≡ 32) ⌝ }
-    ensures { λ r. ⌜ Summing shape q r (now (places .exit)) ⌝ }
+// Fills in where all cells of a line start, the extra one too, and answers how many they are.
+fn place_line(shape: Shape, l: Line, places: &mut [usize; PLACES]) -> usize
+    requires { ⌜ WellFormed shape × Short l × (length (now places) ≡ 32) ⌝ }
+    ensures { λ r. ⌜ PlacedAll shape l r (now (places .exit)) ⌝ }
 {
-    let l = line_of(shape, q);
     let count = l.count;
     let extra = l.extra;
     place_cells(shape, l, places);
@@ -310,8 +310,9 @@ pub fn sources_of(shape: Shape, q: usize, places: &mut [usize; PLACES]) -> Sourc
     requires { ⌜ WellFormed shape × (q < equations shape) × (length (now places) ≡ 32) ⌝ }
     ensures { λ r. ⌜ Found shape q r (now (places .exit)) ⌝ }
 {
-    let to = parity_place(shape, q);
-    let count = list_sources(shape, q, places);
+    let l = line_of(shape, q);
+    let to = l.to * shape.cell;
+    let count = place_line(shape, l, places);
     Sources { to, count }
 }
 

@@ -52,6 +52,7 @@ pub fn line(shape: Shape, q: usize) -> Line
     let m = crate::data_columns(shape);
     if q < n {
         return Line {
+            to: m * n + q,
             count: m,
             first: q,
             step: n,
@@ -62,6 +63,7 @@ pub fn line(shape: Shape, q: usize) -> Line
     }
     let d = q - n;
     Line {
+        to: m * n + q,
         count: met(m, d),
         first: d,
         step: n - 1,

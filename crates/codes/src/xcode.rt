@@ -41,6 +41,7 @@ pub fn line(shape: Shape, q: usize) -> Line
     if q < p {
         let column = crate::turned(q, 2, p);
         return Line {
+            to: q * p + (p - 2),
             count: p - 2,
             first: column * p,
             step: p + 1,
@@ -51,6 +52,7 @@ pub fn line(shape: Shape, q: usize) -> Line
     }
     let column = crate::turned(q - p, 1, p);
     Line {
+        to: (q - p) * p + (p - 1),
         count: p - 2,
         first: column * p + (p - 3),
         step: p - 1,

@@ -95,7 +95,14 @@ fn count_members(set: u64) -> usize
 
 // Writes new bytes into a data cell, by its row and its column as the equations number it, and where it starts, and brings the parity cells that
 // depend on it up to date. Answers how many these are.
-fn write_cell(shape: Shape, stripe: &mut [u8], row: usize, column: usize, from: usize, new: &[u8]) -> usize
+fn write_cell(
+    shape: Shape,
+    stripe: &mut [u8],
+    row: usize,
+    column: usize,
+    from: usize,
+    new: &[u8],
+) -> usize
     requires { ⌜ WriteRight shape (length (now stripe)) row column (length (now new)) × (from ≡ place shape (cellNumber shape row column)) ⌝ }
     ensures { λ r. ⌜ Written shape (cellNumber shape row column) (now (stripe .entry)) (now (new .entry)) (now (stripe .exit))
         × Depending shape (cellNumber shape row column) r ⌝ }

@@ -30,7 +30,7 @@ add-result : tie.Need-add-result
 add-result c = omega (arith, high (c .before .before .before .before .before .args .shape) (c .before .before .before .before .before .pre .0), disks-high (c .before .before .before .before .before .args .shape) (c .before .before .before .before .before .pre .0), columns-high (c .before .before .before .before .before .args .shape) (c .before .before .before .before .before .pre .0), c .before .before .before .before .before .pre .1)
 
 returns-3 : tie.Need-returns-3
-returns-3 c = 
+returns-3 c =
     let s = c .before .before .before .before .before in
     let k = data-known (c .before .before .before .before .before .args .shape) (c .before .before .before .before .before .pre .0) _ (c .before .before .before .width .given .1) .0 in
     ap (λ (x : ℕ). s .args .d + x) (let z : s .args .shape .p - 1 - _ ≡ _ = omega (arith, k) in z) ∙ sym (column-after (s .args .shape) (s .args .d) (omega (arith, k, c .before .if1 .left)))

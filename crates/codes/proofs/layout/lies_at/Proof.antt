@@ -27,13 +27,13 @@ sub-result-2 : tie.Need-sub-result-2
 sub-result-2 c = omega (arith, data-known (c .before .before .before .before .before .args .shape) (c .before .before .before .before .before .pre .0) _ (c .before .before .before .width .given .1) .0)
 
 sub-result-3 : tie.Need-sub-result-3
-sub-result-3 c = 
+sub-result-3 c =
     let s = c .before .before .before .before .before in
     let k = data-known (c .before .before .before .before .before .args .shape) (c .before .before .before .before .before .pre .0) _ (c .before .before .before .width .given .1) .0 in
     there-cases (s .args .shape) (s .args .j) (s .pre .2) (λ a. absurd (omega (arith, k, c .before .if1 .left))) (λ a. omega (arith, k))
 
 returns-3 : tie.Need-returns-3
-returns-3 c = 
+returns-3 c =
     let s = c .before .before .before .before .before in
     let k = data-known (c .before .before .before .before .before .args .shape) (c .before .before .before .before .before .pre .0) _ (c .before .before .before .width .given .1) .0 in
     omega (arith, k, lies-after (s .args .shape) (s .args .j) (omega (arith, k, c .before .if1 .left)))
