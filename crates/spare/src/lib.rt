@@ -15,6 +15,7 @@ ghost use Rattle.spare.specs.Places.{LevelPlaces, leader, ColumnPut, Sla
 ghost use Rattle.spare.specs.Run.{RowsRebuilt, RunsByPlan};
 use codes::Counted;
 use codes::Shape;
+use codes::Width;
 
 mod short;
 
@@ -214,7 +215,7 @@ fn run_full(
 }
 
 // Rebuilds n rows of the spare from the first on, each into its own part: no other byte of the spare changes. Where some column doesn't exist
-// the rows go a way of their own from the start.
+// the rows go a way of their own from the start; where none is missing the shape says so before the loop, however its width was given.
 fn run_rows(
     shape: Shape,
     stripe: &[u8],
@@ -228,7 +229,13 @@ fn run_rows(
     ensures { λ _. ⌜ RowsRebuilt shape k plan first n (now (stripe .entry)) (now (spare .entry)) (now (spare .exit)) ⌝ }
 {
     if is_full(shape) {
-        run_full(shape, stripe, k, plan, spare, first, n);
+        let full = Shape {
+            code: shape.code,
+            p: shape.p,
+            cell: shape.cell,
+            width: Width::Full,
+        };
+        run_full(full, stripe, k, plan, spare, first, n);
         return;
     }
     short::run_rows(shape, stripe, k, plan, spare, first, n);

@@ -1,6 +1,7 @@
--- `spare::run_rows` meets its contract: either way rebuilds the rows.
+-- `spare::run_rows` meets its contract: either way rebuilds the rows, and where no column is missing the shape with no number of them given is as good.
 use borrow.Author.Needs.{needs}
 use Rattle.spare.proofs.Leads.{none-missing}
+use Rattle.spare.proofs.Widths.{none-given, few, run-widened, rows-widened}
 use Rattle.spare.proofs.run_rows.Statement.{statement}
 use Rattle.spare.proofs.run_rows.Tie as tie
 
@@ -10,13 +11,18 @@ is-full-requires c κs = c .before .before .pre .0 .buffers .of .formed
 run-full-requires : tie.Need-run-full-requires
 run-full-requires c κs =
     let pre = c .before .before .before .before .before .pre in
-    (pre .0, pre .1, none-missing _ (pre .0 .buffers .of .formed) _ (c .before .before .is-full .ensures) (c .before .if1 .taken))
+    let shape = c .before .before .before .before .before .args .shape in
+    let full = none-missing _ (pre .0 .buffers .of .formed) _ (c .before .before .is-full .ensures) (c .before .if1 .taken) in
+    (run-widened shape full _ _ _ _ _ (pre .0), few shape _ (pre .1), none-given shape)
 
 same-length : tie.Need-same-length
 same-length c = search needs
 
 returns : tie.Need-returns
-returns c = search needs
+returns c =
+    let start = c .before .before .before .before .before .before .before .before in
+    let full = none-missing _ (start .pre .0 .buffers .of .formed) _ (c .before .before .before .before .before .is-full .ensures) (c .before .before .before .before .if1 .taken) in
+    rows-widened (start .args .shape) full _ _ _ _ _ _ _ (c .before .before .run-full .ensures)
 
 run-rows-requires : tie.Need-run-rows-requires
 run-rows-requires c κs = c .before .before .before .before .before .pre
