@@ -2,12 +2,12 @@
 -- less the row in which it meets that column, whatever the map between columns and where they lie, where each of them exists.
 use mathlib.Core.Path.{_≡_, refl, sym, ap, ap₂, _∙_}
 use mathlib.Core.Logic.{_≢_}
-use mathlib.Core.Bool.{Bool, true, false}
+use mathlib.Core.Bool.{Bool, true}
 use Prim.Native.Nat.{ℕ, _+_, _-_, _*_, _%_, _≤_, _<_}
 use native.Mathlib.Nat.{mod-lt, mod-eq-of-lt, mod-add-mod, add-mod-right, mul-le-mul-right, one-mul, zero-mul, zero-add, mod-self}
 use native.Mathlib.Omega.{arith}
 use lib.Dec.{eqb}
-use borrow.Author.Tests.{eqb-true, eqb-false}
+use borrow.Author.Tests.{eqb-true}
 use Rattle.xor.proofs.Cases.{by-equal, by-less}
 use Rattle.codes.specs.declared.Shape.{Shape}
 use Rattle.codes.specs.Shape.{rows, cellNumber, missing, WellFormed}
@@ -34,12 +34,8 @@ meets s k i = (diagonal s k i + (s .p - leader s)) % s .p
 
 -- ---- whether every column exists, as the code tests it
 
-module _ (s : Shape) (w : WellFormed s) (full : Bool) (is : full ≡ eqb (gap s) (s .p - 1)) where
-  pub none-missing : full ≡ true → missing s ≡ 0
-  none-missing e = omega (arith, missing-low s w, eqb-true (gap s) (s .p - 1) (sym is ∙ e))
-
-  pub some-missing : full ≡ false → missing s ≢ 0
-  some-missing e none = eqb-false (gap s) (s .p - 1) (sym is ∙ e) (omega (arith, none))
+pub none-missing : (s : Shape) (w : WellFormed s) (full : Bool) → full ≡ eqb (gap s) (s .p - 1) → full ≡ true → missing s ≡ 0
+none-missing s w full is e = omega (arith, missing-low s w, eqb-true (gap s) (s .p - 1) (sym is ∙ e))
 
 -- ---- the column that leads
 

@@ -4,17 +4,16 @@ use mathlib.Core.Logic.{_≢_, _⊎_, inl, inr, ⊎-elim}
 use mathlib.Core.List.{List}
 use mathlib.Core.Bool.{Bool, true, false, cond}
 use Prim.Native.Nat.{ℕ, zero, suc, _+_, _-_, _*_, _≤_, _<_}
-use native.Mathlib.Nat.{add-zero, zero-add, zero-mul}
+use native.Mathlib.Nat.{add-zero, zero-add}
 use native.Mathlib.Omega.{arith}
 use lib.Dec.{eqb}
-use lib.ListN.{length, getD, set, length-set, take, drop, replicate, getD-replicate, length-replicate, List·getD-eq-default}
-use lib.Seq.{getD-set-same, getD-set-other}
+use lib.ListN.{length, getD, set, length-set, take, replicate, getD-replicate, length-replicate, List·getD-eq-default}
+use lib.Seq.{getD-set-same, getD-set-other, length-take-le, getD-take}
 use borrow.Author.Tests.{eq-eqb, ne-eqb}
 use Rattle.xor.specs.Xor.{_⊕_, xors}
 use Rattle.xor.specs.Runs.{sumAt}
 use Rattle.xor.proofs.Cases.{by-test, by-equal, by-less}
 use Rattle.xor.proofs.Algebra.{zero-⊕, ⊕-zero, ⊕-comm, ⊕-assoc, ⊕-self, ⊕-cancel, equal-⊕}
-use Rattle.xor.proofs.Runs.{part-long, part-byte}
 use Rattle.xor.proofs.Sums.{xors-more, xors-none, xors-same, xors-one, xors-plus}
 use Rattle.codes.specs.declared.Shape.{Shape}
 use Rattle.codes.specs.Shape.{cells, stripeLength}
@@ -29,10 +28,10 @@ use Rattle.spare.proofs.Slots.{Held, others-are}
 
 -- ---- one place after the other
 
-pub others-none : (own last : ℕ) (cells places : List ℕ) → length places ≡ 96 → OthersPut 0 own last cells places
+pub others-none : (own last : ℕ) (cells places : List ℕ) → length places ≡ 32 → OthersPut 0 own last cells places
 others-none own last cells places long = record { long = long; at = λ j l. absurd (omega arith) }
 
-pub others-more : (n own last next : ℕ) (cells places : List ℕ) → n < 96 → OthersPut n own last cells places → next ≡ standIn own last (getD cells n 0)
+pub others-more : (n own last next : ℕ) (cells places : List ℕ) → n < 32 → OthersPut n own last cells places → next ≡ standIn own last (getD cells n 0)
     → OthersPut (n + 1) own last cells (set places n next)
 others-more n own last next cells places l h e = record {
   long = length-set places n next ∙ h .long;
@@ -149,37 +148,28 @@ module _ (s : Shape) (q own : ℕ) (h : Held s q own) (there : cellThere s own �
     some-cell = by-equal n 0 (λ e. absurd (let none : _≡_ {A = ℕ} 0 1 = sym (xors-none _) ∙ ap (λ (m : ℕ). xors m (λ k. hit (place s own) (getD list k 0))) (sym e) ∙ odd in omega arith)) (λ e. omega arith)
 
     -- the first places, with the last one in the stead of the own cell's, are those of the other cells
-    pub others-left : (at m : ℕ) (places : List ℕ) → at ≡ place s own → m ≡ n - 1 → OthersPut m at (getD list m 0) list places → OthersAt s q own (0 * s .cell) (take (0 + m - 0) (drop 0 places))
+    pub others-left : (at m : ℕ) (places : List ℕ) → at ≡ place s own → m ≡ n - 1 → OthersPut m at (getD list m 0) list places → OthersAt s q own 0 (take m places)
     unfolding sumAt
     others-left at m places e em put = record {
-      inside = record { ends = λ j lj. let l : j < m = omega (arith, long) in omega (arith, none, slot j l, ends j l) };
+      inside = record { ends = λ j lj. let l : j < m = omega (arith, long) in omega (arith, slot j l, ends j l) };
       sum = λ stripe t.
-          ap (λ (x : ℕ). xors x (λ j. getD stripe (getD part j 0 + (0 * s .cell + t)) 0)) long
-          ∙ xors-same m (λ j. getD stripe (getD part j 0 + (0 * s .cell + t)) 0) (λ j. getD stripe (standIn at (getD list m 0) (getD list j 0) + t) 0)
-          (λ j l. ap₂ (λ (x y : ℕ). getD stripe (x + (y + t)) 0) (slot j l) none ∙ ap (λ (x : ℕ). getD stripe (standIn at (getD list m 0) (getD list j 0) + x) 0) (zero-add t))
+          ap (λ (x : ℕ). xors x (λ j. getD stripe (getD (take m places) j 0 + (0 + t)) 0)) long
+          ∙ xors-same m (λ j. getD stripe (getD (take m places) j 0 + (0 + t)) 0) (λ j. getD stripe (standIn at (getD list m 0) (getD list j 0) + t) 0)
+          (λ j l. ap₂ (λ (x y : ℕ). getD stripe (x + y) 0) (slot j l) (zero-add t))
           ∙ left-out (λ x. getD stripe (x + t) 0) (λ k. getD list k 0) at m (ap₂ (λ (x y : ℕ). xors x (λ k. hit y (getD list k 0))) whole e ∙ odd)
           ∙ ap₂ _⊕_ (ap (λ (x : ℕ). xors x (λ k. getD stripe (getD list k 0 + t) 0)) whole ∙ all .sum stripe t)
           (ap (λ (x : ℕ). getD stripe (x + t) 0) e ∙ sym (byte-there s (h .formed) stripe own t there))
           ∙ sym (others-are s q own h (λ c. byteAt s stripe c t));
     }
       where
-        part : List ℕ
-        part = take (0 + m - 0) (drop 0 places)
-
         whole : m + 1 ≡ n
         whole = omega (arith, some-cell)
 
-        none : 0 * s .cell ≡ 0
-        none = zero-mul (s .cell)
+        long : length (take m places) ≡ m
+        long = length-take-le m places (omega (arith, put .long, all .few, whole))
 
-        exact : 0 + m - 0 ≡ m
-        exact = omega arith
-
-        long : length (take (0 + m - 0) (drop 0 places)) ≡ m
-        long = part-long places 0 (0 + m - 0) (omega (arith, put .long, all .few, whole)) ∙ exact
-
-        slot : (j : ℕ) → j < m → getD (take (0 + m - 0) (drop 0 places)) j 0 ≡ standIn at (getD list m 0) (getD list j 0)
-        slot j l = part-byte places 0 (0 + m - 0) j (omega arith) ∙ ap (λ (x : ℕ). getD places x 0) (zero-add j) ∙ put .at j l
+        slot : (j : ℕ) → j < m → getD (take m places) j 0 ≡ standIn at (getD list m 0) (getD list j 0)
+        slot j l = getD-take m places j 0 l ∙ put .at j l
 
         ends : (j : ℕ) → j < m → standIn at (getD list m 0) (getD list j 0) + s .cell ≤ stripeLength s
         ends j l =

@@ -9,6 +9,7 @@ pub mod Leads
 pub mod Tables
 pub mod Windows
 pub mod Parts
+pub mod Widths
 pub mod Budget
 pub mod SameReads
 pub mod Covered

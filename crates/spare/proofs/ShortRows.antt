@@ -1,19 +1,17 @@
--- A row of a stripe some of whose columns don't exist: from the list of all cells of the chosen equation to the window of the others.
+-- A row of a stripe some of whose columns don't exist: from the list of all cells of the chosen equation to that of the others.
 use mathlib.Core.Path.{_≡_, sym, _∙_, subst}
-use mathlib.Core.Logic.{_≢_}
 use mathlib.Core.List.{List}
 use mathlib.Core.Bool.{true}
 use Prim.Native.Nat.{ℕ, _-_, _≤_}
 use native.Mathlib.Omega.{arith}
 use lib.ListN.{getD}
 use Rattle.codes.specs.declared.Shape.{Shape}
-use Rattle.codes.specs.Shape.{cellNumber, missing}
+use Rattle.codes.specs.Shape.{cellNumber}
 use Rattle.codes.specs.Geometry.{cellThere, place}
 use Rattle.codes.specs.Lines.{Holding}
 use Rattle.codes.proofs.Geometry.{cell-there-at}
-use Rattle.codes.proofs.Shapes.{low}
 use Rattle.plan.specs.Plan.{chosen}
-use Rattle.spare.specs.Places.{RowRight, OthersPut, Aimed}
+use Rattle.spare.specs.Places.{RowRight, OthersPut, OthersListed}
 use Rattle.spare.proofs.Choice.{chosen-held}
 use Rattle.spare.proofs.LeftOut.{some-cell, others-left}
 
@@ -28,11 +26,10 @@ module _ (s : Shape) (k plan i : ℕ) (right : RowRight s k plan i) (q n : ℕ) 
   pub row-some : 1 ≤ n
   row-some = some-cell s (chosen s k plan i) (cellNumber s i k) (chosen-held s k plan i right) there n list of-chosen
 
-  pub row-aimed : missing s ≢ 0 → (own : ℕ) (places : List ℕ) → own ≡ place s (cellNumber s i k) → OthersPut (n - 1) own (getD list (n - 1) 0) list places
-      → Aimed s k plan i (record { from = 0; count = n - 1; ahead = 0 }) places
-  row-aimed some own places e put = record {
-    inside = omega (arith, all .few);
-    ahead = omega (arith, low s (right .of .formed));
-    listed = record { long = put .long; level = λ none. absurd (some none); slant = λ none. absurd (some none) };
+  pub row-listed : (own : ℕ) (places : List ℕ) → own ≡ place s (cellNumber s i k) → OthersPut (n - 1) own (getD list (n - 1) 0) list places
+      → OthersListed s k plan i (n - 1) places
+  row-listed own places e put = record {
+    few = omega (arith, all .few);
+    long = put .long;
     cells = others-left s (chosen s k plan i) (cellNumber s i k) (chosen-held s k plan i right) there n list of-chosen own (n - 1) places e (let same : n - 1 ≡ n - 1 = omega arith in same) put;
   }

@@ -25,7 +25,7 @@ use Rattle.plan.proofs.Column.{last-row, last-column}
 use Rattle.plan.proofs.Diagonals.{home, home-back, diagonal-back, diagonal-below, diagonal-last, diagonal-turned}
 use Rattle.plan.proofs.Accepted.{every-row}
 use Rattle.plan.proofs.Cells.{taken-low}
-use Rattle.spare.specs.Places.{starts, LevelPlaces, inSlot, SlantPlaces, Listed, RowRight, OthersAt, Aimed}
+use Rattle.spare.specs.Places.{starts, LevelPlaces, inSlot, SlantPlaces, RowRight, OthersAt, Aimed}
 use Rattle.spare.proofs.Choice.{by-row, by-diagonal, chosen-held}
 use Rattle.spare.proofs.Leads.{OnDiagonal, slot-column, row-low}
 use Rattle.spare.proofs.Slots.{Held, others-kept, others-swapped}
@@ -46,10 +46,6 @@ module _ (s : Shape) (k plan i : ℕ) (right : RowRight s k plan i) (full : miss
 
   cell-there : (r j : ℕ) → r < s .p - 1 → cellThere s (cellNumber s r j) ≡ true
   cell-there r j lr = cell-there-at s w r j (omega (arith, n-is)) ∙ there-all s full j
-
-  -- what is listed for all rows stays so
-  listed-too : (places : List ℕ) → LevelPlaces s k places → SlantPlaces s k places → Listed s k places
-  listed-too places level slant = record { long = slant .long; level = λ _. level; slant = λ _. slant }
 
   held : (q : ℕ) → chosen s k plan i ≡ q → Held s q (cellNumber s i k)
   held q e = subst (λ (x : ℕ). Held s x (cellNumber s i k)) e (chosen-held s k plan i right)
@@ -102,8 +98,8 @@ module _ (s : Shape) (k plan i : ℕ) (right : RowRight s k plan i) (full : miss
         sum : (f : ℕ → ℕ) → sumOver s i f ≡ xors (s .p - 1) (λ j. f (cellNumber s i j))
         sum = rdp-row-sum s w (right .of .rdp) i li
 
-    pub aimed-row : SlantPlaces s k places → Aimed s k plan i (record { from = 64; count = s .p - 1; ahead = i }) places
-    aimed-row slant = record { inside = omega (arith, high s w); ahead = omega (arith, li); listed = listed-too places h slant; cells = row-others }
+    pub aimed-row : SlantPlaces s k places → Aimed s k plan i (record { from = 64; ahead = i }) places
+    aimed-row slant = record { inside = omega (arith, high s w); ahead = omega (arith, li); level = h; slant = slant; cells = row-others }
 
   -- ---- by diagonal: slot r of the p - 1 from p - 1 - row on has the place of row r's cell
 
@@ -196,5 +192,5 @@ module _ (s : Shape) (k plan i : ℕ) (right : RowRight s k plan i) (full : miss
           sum : (f : ℕ → ℕ) → sumOver s (s .p - 1 + d) f ≡ xors (s .p - 1) (λ r. f (cell r))
           sum = rdp-diagonal-sum s w (right .of .rdp) d d-low (λ r. home s r d) (λ r lr. (column-low r, column-on r lr))
 
-      pub aimed-diagonal : Aimed s k plan i (record { from = s .p - 1 - row; count = s .p - 1; ahead = row }) places
-      aimed-diagonal = record { inside = omega (arith, high s w); ahead = low-row; listed = listed-too places (h .level) (h .slant); cells = diagonal-others }
+      pub aimed-diagonal : Aimed s k plan i (record { from = s .p - 1 - row; ahead = row }) places
+      aimed-diagonal = record { inside = omega (arith, high s w); ahead = low-row; level = h .level; slant = h .slant; cells = diagonal-others }

@@ -46,12 +46,6 @@ pub record SlantPlaces (s : Shape) (k : ℕ) (places : List ℕ) : Type 0 where
   pub long : length places ≡ 96
   pub slot : (x : ℕ) → x < s .p - 1 + s .p → inSlot s x ≢ k → getD places x 0 + (s .p - 1) * s .cell ≡ starts s (inSlot s x) + x * s .cell
 
--- what is listed for all rows: both kinds of places, where every column exists
-pub record Listed (s : Shape) (k : ℕ) (places : List ℕ) : Type 0 where
-  pub long : length places ≡ 96
-  pub level : missing s ≡ 0 → LevelPlaces s k places
-  pub slant : missing s ≡ 0 → SlantPlaces s k places
-
 -- row i of a lost column is to be rebuilt by an accepted plan
 pub record RowRight (s : Shape) (k plan i : ℕ) : Type 0 where
   pub of : RdpColumn s k
@@ -69,29 +63,44 @@ standIn own last place = cond (eqb place own) last place
 
 -- the places have the first n of those of `cells`, with the last one in the stead of the own cell's
 pub record OthersPut (n own last : ℕ) (cells places : List ℕ) : Type 0 where
-  pub long : length places ≡ 96
+  pub long : length places ≡ 32
   pub at : (j : ℕ) → j < n → getD places j 0 ≡ standIn own last (getD cells j 0)
 
--- the places of a window
-abbrev pub seen : Window → List ℕ → List ℕ
-seen w places = take (w .from + w .count - w .from) (drop (w .from) places)
+-- the first n places are where the other cells start of the equation by which a plan takes row i of column k
+pub record OthersListed (s : Shape) (k plan i n : ℕ) (places : List ℕ) : Type 0 where
+  pub few : n ≤ 32
+  pub long : length places ≡ 32
+  pub cells : OthersAt s (chosen s k plan i) (cellNumber s i k) 0 (take n places)
+
+-- the p-1 places from a window's start on
+abbrev pub seen : Shape → Window → List ℕ → List ℕ
+seen s w places = take (w .from + (s .p - 1) - w .from) (drop (w .from) places)
 
 -- the window has where the other cells start of the equation by which a plan takes row i of column k, and the list stays as it was for other rows
 pub record Aimed (s : Shape) (k plan i : ℕ) (w : Window) (places : List ℕ) : Type 0 where
-  pub inside : w .from + w .count ≤ 96
+  pub inside : w .from + (s .p - 1) ≤ 96
   pub ahead : w .ahead < s .p
-  pub listed : Listed s k places
-  pub cells : OthersAt s (chosen s k plan i) (cellNumber s i k) (w .ahead * s .cell) (seen w places)
+  pub level : LevelPlaces s k places
+  pub slant : SlantPlaces s k places
+  pub cells : OthersAt s (chosen s k plan i) (cellNumber s i k) (w .ahead * s .cell) (seen s w places)
 
--- such a row, from a stripe of so many bytes, with where the cells start listed, and so many bytes of the spare for it
+-- such a row, from a stripe of so many bytes all of whose columns exist, with where the cells start listed, and so many bytes of the spare for it
 pub record RowReady (s : Shape) (bytes lead k plan i : ℕ) (places : List ℕ) (part : ℕ) : Type 0 where
   pub right : RowRight s k plan i
+  pub full : missing s ≡ 0
   pub leads : lead ≡ leader s
   pub long : bytes ≡ stripeLength s
-  pub listed : Listed s k places
+  pub level : LevelPlaces s k places
+  pub slant : SlantPlaces s k places
   pub whole : part ≡ s .cell
 
 -- the row's part of the spare has it, and the list is there for the next
 pub record RowDone (s : Shape) (k plan i : ℕ) (stripe old new places : List ℕ) : Type 0 where
   pub put : Put old 0 (s .cell) (rebuiltByte s k plan stripe i) new
-  pub listed : Listed s k places
+  pub level : LevelPlaces s k places
+  pub slant : SlantPlaces s k places
+
+-- the row's part of the spare has it, and the list is as long as it was
+pub record RowListed (s : Shape) (k plan i : ℕ) (stripe old new places : List ℕ) : Type 0 where
+  pub put : Put old 0 (s .cell) (rebuiltByte s k plan stripe i) new
+  pub long : length places ≡ 32

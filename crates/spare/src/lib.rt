@@ -11,10 +11,11 @@ ghost use Rattle.codes.specs.Refusals.{refusal};
 ghost use Rattle.plan.specs.Right.{RdpColumn};
 ghost use Rattle.spare.specs.Refusals.{spareFaults, runFaults};
 ghost use Rattle.spare.specs.Right.{RunRight};
-ghost use Rattle.spare.specs.Places.{LevelPlaces, leader, ColumnPut, SlantPlaces, Listed, RowRight, Aimed, RowReady, RowDone};
+ghost use Rattle.spare.specs.Places.{LevelPlaces, leader, ColumnPut, SlantPlaces, RowRight, Aimed, RowReady, RowDone};
 ghost use Rattle.spare.specs.Run.{RowsRebuilt, RunsByPlan};
 use codes::Counted;
 use codes::Shape;
+use codes::Width;
 
 mod short;
 
@@ -29,10 +30,9 @@ const LEVEL: usize = 2 * codes::PLACES;
 // All slots.
 const SLOTS: usize = LEVEL + codes::PLACES;
 
-// Where in the list a row's own places start, how many they are, and how many cells past them its cells start.
+// Where in the list a row's own places start, and how many cells past them its cells do.
 struct Window {
     from: usize,
-    count: usize,
     ahead: usize,
 }
 
@@ -133,59 +133,26 @@ fn swap_row_parity(shape: Shape, k: usize, places: &mut [usize; SLOTS])
     }
 }
 
-// Lists where the cells of all rows start, where every column exists; elsewhere each row lists its own.
-fn list_rows(shape: Shape, lead: usize, k: usize, places: &mut [usize; SLOTS])
-    requires { ⌜ RdpColumn shape k × (lead ≡ leader shape) × (length (now places) ≡ 96) ⌝ }
-    ensures { λ _. ⌜ Listed shape k (now (places .exit)) ⌝ }
-{
-    if !is_full(shape) {
-        return;
-    }
-    list_places(shape, lead, places);
-    swap_row_parity(shape, k, places);
-}
-
-// The window of row i in the list for all rows: its places by its row, or by its diagonal, which has the place of the diagonal's parity cell
-// put in for column k's.
-fn aim_listed(
-    shape: Shape,
-    lead: usize,
-    k: usize,
-    plan: u64,
-    i: usize,
-    places: &mut [usize],
-) -> Window
+// The window of row i: its places by its row, or by its diagonal, which has the place of the diagonal's parity cell put in for column k's.
+fn aim(shape: Shape, lead: usize, k: usize, plan: u64, i: usize, places: &mut [usize]) -> Window
     requires { ⌜ RowRight shape k plan i × (missing shape ≡ 0) × (lead ≡ leader shape) × LevelPlaces shape k (now places)
         × SlantPlaces shape k (now places) ⌝ }
     ensures { λ r. ⌜ Aimed shape k plan i r (now (places .exit)) ⌝ }
 {
-    let p = shape.p;
-    let count = p - 1;
     if plan & bits::one_bit(i) == 0 {
         return Window {
             from: LEVEL,
-            count,
             ahead: i,
         };
     }
+    let p = shape.p;
     let d = codes::turned(i, k, p);
     let ahead = codes::turned(d, p - lead, p);
-    let from = count - ahead;
+    let from = p - 1 - ahead;
     if k < p {
         places[from + i] = codes::cell_place(shape, d, p) - ahead * shape.cell;
     }
-    Window { from, count, ahead }
-}
-
-// The window of row i: in the list for all rows, or in its own where some column doesn't exist.
-fn aim(shape: Shape, lead: usize, k: usize, plan: u64, i: usize, places: &mut [usize]) -> Window
-    requires { ⌜ RowRight shape k plan i × (lead ≡ leader shape) × Listed shape k (now places) ⌝ }
-    ensures { λ r. ⌜ Aimed shape k plan i r (now (places .exit)) ⌝ }
-{
-    if is_full(shape) {
-        return aim_listed(shape, lead, k, plan, i, places);
-    }
-    short::aim(shape, k, plan, i, places)
+    Window { from, ahead }
 }
 
 // Rebuilds row i of column k into its part of the spare: the XOR of the other cells of the equation by which the plan takes it.
@@ -204,14 +171,14 @@ fn rebuild_row(
 {
     let window = aim(shape, lead, k, plan, i, places);
     let from = window.from;
-    let to = from + window.count;
+    let to = from + (shape.p - 1);
     let at = window.ahead * shape.cell;
     xor::put_sum_whole(part, stripe, &places[from..to], at);
 }
 
 // Rebuilds n rows of the spare from the first on, each into its own part: no other byte of the spare changes. Where their cells start is
-// listed once, for all of them, where every column exists.
-fn run_rows(
+// listed once, for all of them: every column exists.
+fn run_full(
     shape: Shape,
     stripe: &[u8],
     k: usize,
@@ -220,12 +187,13 @@ fn run_rows(
     first: usize,
     n: usize,
 )
-    requires { ⌜ RunRight shape (length (now stripe)) (length (now spare)) k plan first × (first + n ≤ rows shape) ⌝ }
+    requires { ⌜ RunRight shape (length (now stripe)) (length (now spare)) k plan first × (first + n ≤ rows shape) × (missing shape ≡ 0) ⌝ }
     ensures { λ _. ⌜ RowsRebuilt shape k plan first n (now (stripe .entry)) (now (spare .entry)) (now (spare .exit)) ⌝ }
 {
     let mut places = [0usize; SLOTS];
     let lead = leading(shape);
-    list_rows(shape, lead, k, &mut places);
+    list_places(shape, lead, &mut places);
+    swap_row_parity(shape, k, &mut places);
     let cell = shape.cell;
     let end = first + n;
     let mut i = first;
@@ -244,6 +212,33 @@ fn run_rows(
         );
         i += 1;
     }
+}
+
+// Rebuilds n rows of the spare from the first on, each into its own part: no other byte of the spare changes. Where some column doesn't exist
+// the rows go a way of their own from the start; where none is missing the shape says so before the loop, however its width was given.
+fn run_rows(
+    shape: Shape,
+    stripe: &[u8],
+    k: usize,
+    plan: u64,
+    spare: &mut [u8],
+    first: usize,
+    n: usize,
+)
+    requires { ⌜ RunRight shape (length (now stripe)) (length (now spare)) k plan first × (first + n ≤ rows shape) ⌝ }
+    ensures { λ _. ⌜ RowsRebuilt shape k plan first n (now (stripe .entry)) (now (spare .entry)) (now (spare .exit)) ⌝ }
+{
+    if is_full(shape) {
+        let full = Shape {
+            code: shape.code,
+            p: shape.p,
+            cell: shape.cell,
+            width: Width::Full,
+        };
+        run_full(full, stripe, k, plan, spare, first, n);
+        return;
+    }
+    short::run_rows(shape, stripe, k, plan, spare, first, n);
 }
 
 // How many rows are left from the first on.

@@ -215,6 +215,26 @@ pub fn put_sum_whole(d: &mut [u8], s: &[u8], places: &[usize], at: usize)
     }
 }
 
+// The same for rows whose places are listed one row at a time. It stands beside put_sum_whole since a second caller of that would cost the
+// run at full width its speed.
+pub fn put_sum_listed(d: &mut [u8], s: &[u8], places: &[usize], at: usize)
+    requires { ⌜ Inside (length (now s)) (now places) (at + length (now d)) × (at + length (now d) < 2 ^ 64) ⌝ }
+    ensures { λ _. ⌜ Put (now (d .entry)) 0 (length (now (d .entry))) (λ t. sumAt (now (s .entry)) (now (places .entry)) (at + t))
+        (now (d .exit)) ⌝ }
+{
+    let n = d.len();
+    if n < BLOCK {
+        put_block_from(d, 0, s, places, at, n);
+        return;
+    }
+    let mut done = 0;
+    while done < n {
+        let next = block_at(done, n);
+        put_block_from(d, next, s, places, at + next, BLOCK);
+        done = next + BLOCK;
+    }
+}
+
 // Byte t of the XOR of the runs at the places.
 pub fn sum_byte(s: &[u8], places: &[usize], t: usize) -> u8
     requires { ⌜ Inside (length (now s)) (now places) (t + 1) ⌝ }

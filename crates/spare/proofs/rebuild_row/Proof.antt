@@ -10,6 +10,9 @@ use Rattle.spare.proofs.rebuild_row.Tie as tie
 aim-requires : tie.Need-aim-requires
 aim-requires c κs = search needs
 
+sub-to : tie.Need-sub-to
+sub-to c = search needs
+
 add-to : tie.Need-add-to
 add-to c = search needs
 
@@ -50,13 +53,14 @@ returns : tie.Need-returns
 returns c =
     let aimed = c .before .before .before .before .before .before .before .before .before .before .before in
     let is = aimed .aim .ensures in
-    record { put = row-put _ _ _ _ _ _ _ _ _ _ (aimed .before .before .before .before .before .pre .whole) (is .cells) (c .before .before .put-sum-whole .ensures); listed = is .listed }
+    record { put = row-put _ _ _ _ _ _ _ _ _ _ (aimed .before .before .before .before .before .pre .whole) (is .cells) (c .before .before .put-sum-whole .ensures); level = is .level; slant = is .slant }
 
 pub rebuild-row-spec : {M : Type 1} → statement M
 rebuild-row-spec =
     tie.close
     (tie.spec
     aim-requires
+    sub-to
     add-to
     mul-at
     mul-put-sum-whole

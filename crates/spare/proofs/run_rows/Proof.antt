@@ -1,126 +1,46 @@
--- `spare::run_rows` meets its contract. The loop's invariant: the rows from the first up to row i are rebuilt, and no other byte has changed;
--- the places stay listed, but for column k's slots.
-use mathlib.Core.Path.{refl, sym, _∙_}
-use Prim.Native.Nat.{_+_, _-_, _*_, _≤_, _<_}
-use native.Mathlib.Omega.{arith}
-use lib.ListN.{length}
-use Rattle.codes.specs.Shape.{rows}
-use Rattle.codes.proofs.Shapes.{rows-high}
-use Rattle.spare.specs.Places.{Listed}
-use Rattle.spare.specs.Run.{RowsRebuilt}
-use Rattle.spare.proofs.Column.{row-ends, row-small}
-use Rattle.spare.proofs.Parts.{below, part-long, rows-none, rows-more, rows-end}
+-- `spare::run_rows` meets its contract: either way rebuilds the rows, and where no column is missing the shape with no number of them given is as good.
+use borrow.Author.Needs.{needs}
+use Rattle.spare.proofs.Leads.{none-missing}
+use Rattle.spare.proofs.Widths.{none-given, few, run-widened, rows-widened}
 use Rattle.spare.proofs.run_rows.Statement.{statement}
 use Rattle.spare.proofs.run_rows.Tie as tie
 
-abbrev Inv-loop : tie.InvT-loop
-Inv-loop shape stripe k plan spare₀ first n places₀ lead cell end i₀ spare places i =
-    (first ≤ i) × (i ≤ end) × Listed shape k places × RowsRebuilt shape k plan first (i - first) stripe spare₀ spare
+is-full-requires : tie.Need-is-full-requires
+is-full-requires c κs = c .before .before .pre .0 .buffers .of .formed
 
-abbrev μ-loop : tie.MeasureT-loop
-μ-loop shape stripe k plan spare₀ first n places₀ lead cell end i₀ spare places i = end - i
+run-full-requires : tie.Need-run-full-requires
+run-full-requires c κs =
+    let pre = c .before .before .before .before .before .pre in
+    let shape = c .before .before .before .before .before .args .shape in
+    let full = none-missing _ (pre .0 .buffers .of .formed) _ (c .before .before .is-full .ensures) (c .before .if1 .taken) in
+    (run-widened shape full _ _ _ _ _ (pre .0), few shape _ (pre .1), none-given shape)
 
-leading-requires : tie.Need-leading-requires Inv-loop μ-loop
-leading-requires c κs = let of = c .before .before .pre .0 .buffers .of in (of .formed, of .rdp)
+same-length : tie.Need-same-length
+same-length c = search needs
 
-list-rows-requires : tie.Need-list-rows-requires Inv-loop μ-loop
-list-rows-requires c κs = (c .before .before .before .before .pre .0 .buffers .of, c .before .leading .ensures, refl)
-
-add-end : tie.Need-add-end Inv-loop μ-loop
-add-end c = let start = c .before .before .before .before .before in omega (arith, start .pre .1, rows-high (start .args .shape) (start .pre .0 .buffers .of .formed))
-
-loop-holds : tie.Need-loop-holds Inv-loop μ-loop
-loop-holds c =
-    (omega arith, omega arith, c .list-rows .ensures, rows-none _ (c .before .before .before .before .before .pre .0 .buffers .of .formed) _ _ _ _ _)
-
--- a row that the loop comes to is one of the column's
-row : (c : tie.In-loop Inv-loop μ-loop) → c .before .loop .i < rows (c .before .before .before .before .before .before .before .args .shape)
-row c = below _ _ _ (c .before .before .before .before .before .before .before .pre .1) (c .loop-test .taken)
-
--- its part of the spare ends inside it, and at a small number
-small : (c : tie.In-loop Inv-loop μ-loop) → let cell = c .before .before .before .before .before .before .before .args .shape .cell in c .before .loop .i * cell + cell ≤ 126976
-small c = let start = c .before .before .before .before .before .before .before in row-small (start .args .shape) (start .pre .0 .buffers .of .formed) (c .before .loop .i) (row c)
-
-ends : (c : tie.In-loop Inv-loop μ-loop) → let cell = c .before .before .before .before .before .before .before .args .shape .cell in c .before .loop .i * cell + cell ≤ length (c .before .loop .spare)
-ends c = let start = c .before .before .before .before .before .before .before in row-ends (start .args .shape) _ (c .before .loop .inv .3 .long ∙ start .pre .0 .buffers .whole) (c .before .loop .i) (row c)
-
-mul-at : tie.Need-mul-at Inv-loop μ-loop
-mul-at c = omega (arith, small c)
-
-add-to : tie.Need-add-to Inv-loop μ-loop
-add-to c = omega (arith, small c)
-
-slice-aggregate-rebuild-row : tie.Need-slice-aggregate-rebuild-row Inv-loop μ-loop
-slice-aggregate-rebuild-row c = sym (c .before .before .loop .inv .2 .long)
-
-sub-rebuild-row : tie.Need-sub-rebuild-row Inv-loop μ-loop
-sub-rebuild-row c = omega arith
-
-part-rebuild-row-start : tie.Need-part-rebuild-row-start Inv-loop μ-loop
-part-rebuild-row-start c = omega arith
-
-part-rebuild-row-end : tie.Need-part-rebuild-row-end Inv-loop μ-loop
-part-rebuild-row-end c = ends (c .before)
-
-rebuild-row-requires : tie.Need-rebuild-row-requires Inv-loop μ-loop
-rebuild-row-requires c κs =
-    let turn = c .before .before in
-    let run = turn .before .before .before .before .before .before .before .pre .0 in
-    let inv = turn .before .loop .inv in
-    record {
-      right = record { of = run .buffers .of; accepted = run .accepted; row = row turn };
-      leads = turn .before .before .before .before .leading .ensures;
-      long = run .buffers .long;
-      listed = inv .2;
-      whole = part-long (turn .before .loop .spare) _ _ (ends turn);
-    }
-
-add-i : tie.Need-add-i Inv-loop μ-loop
-add-i c = let turn = c .before .before .before .before .before .before in omega (arith, row turn, rows-high _ (turn .before .before .before .before .before .before .before .pre .0 .buffers .of .formed))
-
-loop-less : tie.Need-loop-less Inv-loop μ-loop
-loop-less c = omega (arith, c .before .before .before .before .before .before .loop-test .taken)
-
-loop-again : tie.Need-loop-again Inv-loop μ-loop
-loop-again c =
-    let turn = c .before .before .before .before .before .before in
-    let start = turn .before .before .before .before .before .before .before in
-    let a = start .args in
-    let at = turn .before .loop in
-    let done = c .before .before .before .rebuild-row .ensures in (
-      omega (arith, at .inv .0),
-      omega (arith, turn .loop-test .taken),
-      done .listed,
-      rows-more (a .shape) (start .pre .0 .buffers .of .formed) (a .k) (a .plan) _ (a .stripe .now) _ (at .spare) _ (at .i) (at .inv .0) (at .inv .3) (ends turn) (done .put),
-    )
-
-same-length : tie.Need-same-length Inv-loop μ-loop
-same-length c = c .before .loop .inv .3 .long
-
-returns : tie.Need-returns Inv-loop μ-loop
+returns : tie.Need-returns
 returns c =
-    let start = c .before .before .before .before .before .before .before in
-    rows-end _ (start .pre .0 .buffers .of .formed) _ _ _ _ _ _ _ _ (omega (arith, c .before .loop .inv .1)) (c .before .loop .inv .3)
+    let start = c .before .before .before .before .before .before .before .before in
+    let full = none-missing _ (start .pre .0 .buffers .of .formed) _ (c .before .before .before .before .before .is-full .ensures) (c .before .before .before .before .if1 .taken) in
+    rows-widened (start .args .shape) full _ _ _ _ _ _ _ (c .before .before .run-full .ensures)
+
+run-rows-requires : tie.Need-run-rows-requires
+run-rows-requires c κs = c .before .before .before .before .before .pre
+
+same-length-2 : tie.Need-same-length-2
+same-length-2 c = search needs
+
+returns-2 : tie.Need-returns-2
+returns-2 c = search needs
 
 pub run-rows-spec : {M : Type 1} → statement M
 run-rows-spec =
     tie.close
     (tie.spec
-    Inv-loop
-    μ-loop
-    leading-requires
-    list-rows-requires
-    add-end
-    loop-holds
-    mul-at
-    add-to
-    slice-aggregate-rebuild-row
-    sub-rebuild-row
-    part-rebuild-row-start
-    part-rebuild-row-end
-    rebuild-row-requires
-    add-i
-    loop-less
-    loop-again
+    is-full-requires
+    run-full-requires
     same-length
-    returns)
+    returns
+    run-rows-requires
+    same-length-2
+    returns-2)

@@ -1,11 +1,11 @@
--- `spare::short::aim` meets its contract. The equation holds the row's cell of the lost column, so that its place is in the list.
+-- `spare::short::list_row` meets its contract. The equation holds the row's cell of the lost column, so that its place is in the list.
 use mathlib.Core.Path.{refl}
 use native.Mathlib.Omega.{arith}
 use Rattle.spare.proofs.Choice.{chosen-held}
-use Rattle.spare.proofs.ShortRows.{row-some, row-aimed}
+use Rattle.spare.proofs.ShortRows.{row-some, row-listed}
 use borrow.Author.Needs.{needs}
-use Rattle.spare.proofs.short.aim.Statement.{statement}
-use Rattle.spare.proofs.short.aim.Tie as tie
+use Rattle.spare.proofs.short.list_row.Statement.{statement}
+use Rattle.spare.proofs.short.list_row.Tie as tie
 
 equation-of-requires : tie.Need-equation-of-requires
 equation-of-requires c κs = search needs
@@ -34,10 +34,10 @@ returns c =
     let listed = c .before .before .before .before .before .before in
     let made = listed .before .before in
     let pre = made .before .before .pre in
-    row-aimed _ _ _ _ (pre .0) _ _ _ (made .equation-of .ensures) (listed .cells-of .ensures) (pre .1) _ _ (c .before .before .before .before .before .cell-place .ensures) (c .before .before .put-others .ensures)
+    row-listed _ _ _ _ (pre .0) _ _ _ (made .equation-of .ensures) (listed .cells-of .ensures) _ _ (c .before .before .before .before .before .cell-place .ensures) (c .before .before .put-others .ensures)
 
-pub aim-spec : {M : Type 1} → statement M
-aim-spec =
+pub list-row-spec : {M : Type 1} → statement M
+list-row-spec =
     tie.close
     (tie.spec
     equation-of-requires
