@@ -2,6 +2,7 @@
 use bad::BadColumn;
 use codes::Counted;
 use codes::Shape;
+use codes::Width;
 use libc::STDOUT_FILENO;
 use spare::PlanAnswer;
 
@@ -35,11 +36,34 @@ fn rebuild_column(shape: Shape, stripe: &[u8], k: usize) {
     tell(b"row 1, which is not, is refused with", reason);
 }
 
+// A shelf of five disks: of RDP with p = 5 the first three data columns and the parity columns.
+fn five_disks() {
+    let shape = Shape {
+        code: 1,
+        p: 5,
+        cell: 1,
+        width: Width::Data(3),
+    };
+    let mut stripe = [7u8; 20];
+    tell(b"encode five disks", stripe::encode(shape, &mut stripe));
+    stripe[8] = 0xEE;
+    tell(
+        b"disks 2 and 4 lost",
+        rebuild::columns(shape, &mut stripe, 2, 4),
+    );
+    tell(b"the byte that came back", stripe[8] as usize);
+    tell(
+        b"disks 2 and 5 lost",
+        rebuild::columns(shape, &mut stripe, 2, 5),
+    );
+}
+
 fn main() {
     let shape = Shape {
         code: 1,
         p: 3,
         cell: 1,
+        width: Width::Full,
     };
     let mut stripe = [0x01u8, 0x04, 0x02, 0x08, 0, 0, 0, 0];
     tell(b"encode", stripe::encode(shape, &mut stripe));
@@ -63,4 +87,5 @@ fn main() {
         b"a cell lost with both its parity cells",
         rebuild::cells(shape, &mut stripe, &[0usize, 4, 6]),
     );
+    five_disks();
 }
