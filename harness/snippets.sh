@@ -1,5 +1,5 @@
 #!/bin/sh
-# Tests the README's snippets: the one in C is compiled against the header and the library and run, the one in Rattle is a part of the program that
+# Tests the README's snippets: the one in C is compiled against the header and the library and run, those in Rattle are parts of the program that
 # the toolchain proves and runs, whose line of crates.txt is the real one, the one with a job prints what it says, and the pictures are what the
 # example prints first. Then that prose is nowhere wider than 100 characters.
 #
@@ -35,11 +35,13 @@ part() {
     awk 'NR == FNR { small = small $0 "\n"; next } { large = large $0 "\n" } END { exit index("\n" large, "\n" small) == 0 }' "$1" "$2"
 }
 
-snippet rust "$BUILD/snippet.rt"
-part "$BUILD/snippet.rt" "$ROOT/crates/example/src/main.rt" || { echo 'the Rattle snippet is no part of crates/example' >&2; exit 1; }
+awk -v out="$BUILD/rattle" '$0 == "```rust" { inside = 1; n++; next } /^```$/ { inside = 0 } inside { print > (out n) }' "$ROOT/README.md"
+for block in "$BUILD/rattle1" "$BUILD/rattle2"; do
+    part "$block" "$ROOT/crates/example/src/main.rt" || { echo 'a Rattle snippet is no part of crates/example' >&2; exit 1; }
+done
 line=$(grep '^example:' "$ROOT/crates.txt")
 grep -q -F "\`$line\`" "$ROOT/README.md" || { echo "README.md has not the line of crates.txt: $line" >&2; exit 1; }
-echo "the Rattle snippet of README.md is a part of the example program"
+echo "the Rattle snippets of README.md are parts of the example program"
 
 snippet shell "$BUILD/snippet.sh"
 job() { kit_run "$ROOT/target/bin/job"; }
