@@ -99,8 +99,3 @@ pub record RowDone (s : Shape) (k plan i : ℕ) (stripe old new places : List �
   pub put : Put old 0 (s .cell) (rebuiltByte s k plan stripe i) new
   pub level : LevelPlaces s k places
   pub slant : SlantPlaces s k places
-
--- the row's part of the spare has it, and the list is as long as it was
-pub record RowListed (s : Shape) (k plan i : ℕ) (stripe old new places : List ℕ) : Type 0 where
-  pub put : Put old 0 (s .cell) (rebuiltByte s k plan stripe i) new
-  pub long : length places ≡ 32
