@@ -29,30 +29,35 @@ fn stand_in(place: usize, own: usize, last: usize) -> usize
     if place == own { last } else { place }
 }
 
-// Lists the first n places of an equation, with the one after them in the stead of the lost cell's.
-fn put_others(cells: &[usize; codes::PLACES], n: usize, own: usize, places: &mut [usize])
-    requires { ⌜ (length (now cells) ≡ 32) × (n < 32) × (length (now places) ≡ 32) ⌝ }
-    ensures { λ _. ⌜ OthersPut n own (getD (now (cells .entry)) n 0) (now (cells .entry)) (now (places .exit)) ⌝ }
+// Puts the place after the first n of an equation in the stead of the lost cell's among them.
+fn leave_out(places: &mut [usize; codes::PLACES], n: usize, own: usize)
+    requires { ⌜ (n < 32) × (length (now places) ≡ 32) ⌝ }
+    ensures { λ _. ⌜ OthersPut n own (getD (now (places .entry)) n 0) (now (places .entry)) (now (places .exit)) ⌝ }
 {
-    let last = cells[n];
+    let last = places[n];
     let mut j = 0;
     while j < n {
-        places[j] = stand_in(cells[j], own, last);
+        places[j] = stand_in(places[j], own, last);
         j += 1;
     }
 }
 
 // Lists where the cells start from which row i is rebuilt, and answers how many they are: those that exist of the equation by which the plan
 // takes it, but the lost one.
-fn list_row(shape: Shape, k: usize, plan: u64, i: usize, places: &mut [usize]) -> usize
+fn list_row(
+    shape: Shape,
+    k: usize,
+    plan: u64,
+    i: usize,
+    places: &mut [usize; codes::PLACES],
+) -> usize
     requires { ⌜ RowRight shape k plan i × (length (now places) ≡ 32) ⌝ }
     ensures { λ r. ⌜ OthersListed shape k plan i r (now (places .exit)) ⌝ }
 {
-    let mut cells = [0usize; codes::PLACES];
     let q = equation_of(shape, k, plan, i);
-    let count = codes::cells_of(shape, q, &mut cells) - 1;
+    let count = codes::cells_of(shape, q, places) - 1;
     let own = codes::cell_place(shape, i, k);
-    put_others(&cells, count, own, places);
+    leave_out(places, count, own);
     count
 }
 

@@ -7,9 +7,6 @@ use Rattle.spare.proofs.Parts.{others-inside, row-put}
 use Rattle.spare.proofs.short.rebuild_row.Statement.{statement}
 use Rattle.spare.proofs.short.rebuild_row.Tie as tie
 
-slice-aggregate-list-row : tie.Need-slice-aggregate-list-row
-slice-aggregate-list-row c = search needs
-
 list-row-requires : tie.Need-list-row-requires
 list-row-requires c κs = search needs
 
@@ -18,27 +15,26 @@ array-share-prefix-places c = search needs
 
 slice-aggregate-put-sum-listed : tie.Need-slice-aggregate-put-sum-listed
 slice-aggregate-put-sum-listed c =
-    let is = c .before .before .before .list-row .ensures in
-    sym (first-long _ (c .before .before .before .list-row .result) (omega (arith, is .few, is .long)))
+    let is = c .before .before .list-row .ensures in
+    sym (first-long _ (c .before .before .list-row .result) (omega (arith, is .few, is .long)))
 
 put-sum-listed-requires : tie.Need-put-sum-listed-requires
 put-sum-listed-requires c κs =
-    let pre = c .before .before .before .before .before .before .before .pre in
-    (others-inside _ _ _ _ _ _ _ (pre .1) (pre .2) (c .before .before .before .list-row .ensures .cells), omega (arith, pre .2, pre .0 .of .formed .cellHigh))
+    let pre = c .before .before .before .before .before .before .pre in
+    (others-inside _ _ _ _ _ _ _ (pre .1) (pre .2) (c .before .before .list-row .ensures .cells), omega (arith, pre .2, pre .0 .of .formed .cellHigh))
 
 same-length : tie.Need-same-length
 same-length c = search needs
 
 returns : tie.Need-returns
 returns c =
-    let listed = c .before .before .before .before .before .before in
+    let listed = c .before .before .before .before .before in
     row-put _ _ _ _ _ _ _ _ _ _ (listed .before .before .before .before .pre .2) (listed .list-row .ensures .cells) (c .before .before .put-sum-listed .ensures)
 
 pub rebuild-row-spec : {M : Type 1} → statement M
 rebuild-row-spec =
     tie.close
     (tie.spec
-    slice-aggregate-list-row
     list-row-requires
     array-share-prefix-places
     slice-aggregate-put-sum-listed
