@@ -1,5 +1,5 @@
 -- `spare::short::run_rows` meets its contract. It calls itself for one row less, so that the measure is the number of rows.
-use mathlib.Core.Path.{refl, _∙_, subst}
+use mathlib.Core.Path.{_∙_, subst}
 use Prim.Native.Nat.{ℕ, _+_, _-_, _*_, _≤_, _<_}
 use native.Mathlib.Nat.{pos-of-ne-zero}
 use native.Mathlib.Omega.{arith}
