@@ -3,7 +3,7 @@ use mathlib.Core.Path.{_≡_, refl, sym, ap, ap₂, _∙_, subst}
 use mathlib.Core.Logic.{_≢_, _⊎_, inl, inr, ⊎-elim}
 use mathlib.Core.List.{List}
 use mathlib.Core.Bool.{Bool, true, false, cond}
-use Prim.Native.Nat.{ℕ, zero, suc, _+_, _-_, _*_, _≤_, _<_}
+use Prim.Native.Nat.{ℕ, zero, suc, _+_, _-_, _≤_, _<_}
 use native.Mathlib.Nat.{add-zero, zero-add}
 use native.Mathlib.Omega.{arith}
 use lib.Dec.{eqb}
@@ -28,16 +28,18 @@ use Rattle.spare.proofs.Slots.{Held, others-are}
 
 -- ---- one place after the other
 
-pub others-none : (own last : ℕ) (cells places : List ℕ) → length places ≡ 32 → OthersPut 0 own last cells places
-others-none own last cells places long = record { long = long; at = λ j l. absurd (omega arith) }
+pub others-none : (own last : ℕ) (cells : List ℕ) → length cells ≡ 32 → OthersPut 0 own last cells cells
+others-none own last cells long = record { long = long; at = λ j l. absurd (omega arith); after = λ j l. refl }
 
-pub others-more : (n own last next : ℕ) (cells places : List ℕ) → n < 32 → OthersPut n own last cells places → next ≡ standIn own last (getD cells n 0)
+pub others-more : (n own last next : ℕ) (cells places : List ℕ) → n < 32 → OthersPut n own last cells places → next ≡ standIn own last (getD places n 0)
     → OthersPut (n + 1) own last cells (set places n next)
 others-more n own last next cells places l h e = record {
   long = length-set places n next ∙ h .long;
   at = λ j lj. by-equal j n
-      (λ z. ap (λ (x : ℕ). getD (set places n next) x 0) z ∙ getD-set-same places n next 0 (omega (arith, h .long)) ∙ e ∙ ap (λ (x : ℕ). standIn own last (getD cells x 0)) (sym z))
+      (λ z. ap (λ (x : ℕ). getD (set places n next) x 0) z ∙ getD-set-same places n next 0 (omega (arith, h .long)) ∙ e
+      ∙ ap (standIn own last) (h .after n (omega arith) ∙ ap (λ (x : ℕ). getD cells x 0) (sym z)))
       (λ z. getD-set-other places n j next 0 z ∙ h .at j (omega arith));
+  after = λ j lj. getD-set-other places n j next 0 (λ z. omega arith) ∙ h .after j (omega arith);
 }
 
 pub others-end : (j n own last : ℕ) (cells places : List ℕ) → j ≡ n → OthersPut j own last cells places → OthersPut n own last cells places

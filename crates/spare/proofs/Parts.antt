@@ -95,3 +95,12 @@ module _ (s : Shape) (w : WellFormed s) (k plan first : ℕ) (stripe old : List 
 
   pub rows-end : (n i : ℕ) (new : List ℕ) → i ≡ first + n → RowsRebuilt s k plan first (i - first) stripe old new → RowsRebuilt s k plan first n stripe old new
   rows-end n i new e h = subst (λ (m : ℕ). RowsRebuilt s k plan first m stripe old new) (let exact : i - first ≡ n = omega arith in exact) h
+
+  -- the last row after the others
+  pub rows-last : (n : ℕ) (mid part : List ℕ) → 1 ≤ n → RowsRebuilt s k plan first (n - 1) stripe old mid → (first + (n - 1)) * s .cell + s .cell ≤ length mid
+      → Put (midOf ((first + (n - 1)) * s .cell) ((first + (n - 1)) * s .cell + s .cell - (first + (n - 1)) * s .cell) mid) 0 (s .cell) (rebuiltByte s k plan stripe (first + (n - 1))) part
+      → RowsRebuilt s k plan first n stripe old (putMid ((first + (n - 1)) * s .cell) ((first + (n - 1)) * s .cell + s .cell - (first + (n - 1)) * s .cell) mid part)
+  rows-last n mid part some h ends put =
+      let before : n - 1 ≡ first + (n - 1) - first = omega arith in
+      rows-end n (first + (n - 1) + 1) _ (omega arith)
+      (rows-more mid part (first + (n - 1)) (omega arith) (subst (λ (m : ℕ). RowsRebuilt s k plan first m stripe old mid) before h) ends put)

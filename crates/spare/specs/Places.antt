@@ -61,10 +61,11 @@ pub record OthersAt (s : Shape) (q own at : ℕ) (places : List ℕ) : Type 0 wh
 abbrev pub standIn : ℕ → ℕ → ℕ → ℕ
 standIn own last place = cond (eqb place own) last place
 
--- the places have the first n of those of `cells`, with the last one in the stead of the own cell's
+-- the places have the first n of those of `cells`, with the last one in the stead of the own cell's; those after them are kept
 pub record OthersPut (n own last : ℕ) (cells places : List ℕ) : Type 0 where
   pub long : length places ≡ 32
   pub at : (j : ℕ) → j < n → getD places j 0 ≡ standIn own last (getD cells j 0)
+  pub after : (j : ℕ) → n ≤ j → getD places j 0 ≡ getD cells j 0
 
 -- the first n places are where the other cells start of the equation by which a plan takes row i of column k
 pub record OthersListed (s : Shape) (k plan i n : ℕ) (places : List ℕ) : Type 0 where
@@ -99,8 +100,3 @@ pub record RowDone (s : Shape) (k plan i : ℕ) (stripe old new places : List �
   pub put : Put old 0 (s .cell) (rebuiltByte s k plan stripe i) new
   pub level : LevelPlaces s k places
   pub slant : SlantPlaces s k places
-
--- the row's part of the spare has it, and the list is as long as it was
-pub record RowListed (s : Shape) (k plan i : ℕ) (stripe old new places : List ℕ) : Type 0 where
-  pub put : Put old 0 (s .cell) (rebuiltByte s k plan stripe i) new
-  pub long : length places ≡ 32

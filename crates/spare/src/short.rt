@@ -3,11 +3,12 @@ use codes::Shape;
 ghost use mathlib.Core.Path.{_≡_};
 ghost use Prim.Native.Nat.{_+_, _≤_, _<_};
 ghost use lib.ListN.{length, getD};
+ghost use Rattle.xor.specs.Runs.{Put};
 ghost use Rattle.codes.specs.Shape.{rows, stripeLength};
 ghost use Rattle.plan.specs.Plan.{chosen};
-ghost use Rattle.spare.specs.Places.{RowRight, standIn, OthersPut, OthersListed, RowListed};
+ghost use Rattle.spare.specs.Places.{RowRight, standIn, OthersPut, OthersListed};
 ghost use Rattle.spare.specs.Right.{RunRight};
-ghost use Rattle.spare.specs.Run.{RowsRebuilt};
+ghost use Rattle.spare.specs.Run.{rebuiltByte, RowsRebuilt};
 
 // The equation by which a plan takes row i of column k.
 fn equation_of(shape: Shape, k: usize, plan: u64, i: usize) -> usize
@@ -28,52 +29,50 @@ fn stand_in(place: usize, own: usize, last: usize) -> usize
     if place == own { last } else { place }
 }
 
-// Lists the first n places of an equation, with the one after them in the stead of the lost cell's.
-fn put_others(cells: &[usize; codes::PLACES], n: usize, own: usize, places: &mut [usize])
-    requires { ⌜ (length (now cells) ≡ 32) × (n < 32) × (length (now places) ≡ 32) ⌝ }
-    ensures { λ _. ⌜ OthersPut n own (getD (now (cells .entry)) n 0) (now (cells .entry)) (now (places .exit)) ⌝ }
+// Puts the place after the first n of an equation in the stead of the lost cell's among them.
+fn leave_out(places: &mut [usize; codes::PLACES], n: usize, own: usize)
+    requires { ⌜ (n < 32) × (length (now places) ≡ 32) ⌝ }
+    ensures { λ _. ⌜ OthersPut n own (getD (now (places .entry)) n 0) (now (places .entry)) (now (places .exit)) ⌝ }
 {
-    let last = cells[n];
+    let last = places[n];
     let mut j = 0;
     while j < n {
-        places[j] = stand_in(cells[j], own, last);
+        places[j] = stand_in(places[j], own, last);
         j += 1;
     }
 }
 
 // Lists where the cells start from which row i is rebuilt, and answers how many they are: those that exist of the equation by which the plan
 // takes it, but the lost one.
-fn list_row(shape: Shape, k: usize, plan: u64, i: usize, places: &mut [usize]) -> usize
+fn list_row(
+    shape: Shape,
+    k: usize,
+    plan: u64,
+    i: usize,
+    places: &mut [usize; codes::PLACES],
+) -> usize
     requires { ⌜ RowRight shape k plan i × (length (now places) ≡ 32) ⌝ }
     ensures { λ r. ⌜ OthersListed shape k plan i r (now (places .exit)) ⌝ }
 {
-    let mut cells = [0usize; codes::PLACES];
     let q = equation_of(shape, k, plan, i);
-    let count = codes::cells_of(shape, q, &mut cells) - 1;
+    let count = codes::cells_of(shape, q, places) - 1;
     let own = codes::cell_place(shape, i, k);
-    put_others(&cells, count, own, places);
+    leave_out(places, count, own);
     count
 }
 
 // Rebuilds row i of column k into its part of the spare: the XOR of the other cells of the equation by which the plan takes it.
-fn rebuild_row(
-    shape: Shape,
-    stripe: &[u8],
-    places: &mut [usize],
-    k: usize,
-    plan: u64,
-    i: usize,
-    part: &mut [u8],
-)
-    requires { ⌜ RowRight shape k plan i × (length (now stripe) ≡ stripeLength shape) × (length (now places) ≡ 32)
-        × (length (now part) ≡ shape .cell) ⌝ }
-    ensures { λ _. ⌜ RowListed shape k plan i (now (stripe .entry)) (now (part .entry)) (now (part .exit)) (now (places .exit)) ⌝ }
+fn rebuild_row(shape: Shape, stripe: &[u8], k: usize, plan: u64, i: usize, part: &mut [u8])
+    requires { ⌜ RowRight shape k plan i × (length (now stripe) ≡ stripeLength shape) × (length (now part) ≡ shape .cell) ⌝ }
+    ensures { λ _. ⌜ Put (now (part .entry)) 0 (shape .cell) (rebuiltByte shape k plan (now (stripe .entry)) i) (now (part .exit)) ⌝ }
 {
-    let count = list_row(shape, k, plan, i, places);
+    let mut places = [0usize; codes::PLACES];
+    let count = list_row(shape, k, plan, i, &mut places);
     xor::put_sum_listed(part, stripe, &places[..count], 0);
 }
 
-// Rebuilds n rows of the spare from the first on, each into its own part: no other byte of the spare changes.
+// Rebuilds n rows of the spare from the first on, each into its own part: no other byte of the spare changes. It calls itself for
+// all but the last: a loop, which would become part of the run, would cost the run at full width up to 4 %.
 pub fn run_rows(
     shape: Shape,
     stripe: &[u8],
@@ -86,14 +85,14 @@ pub fn run_rows(
     requires { ⌜ RunRight shape (length (now stripe)) (length (now spare)) k plan first × (first + n ≤ rows shape) ⌝ }
     ensures { λ _. ⌜ RowsRebuilt shape k plan first n (now (stripe .entry)) (now (spare .entry)) (now (spare .exit)) ⌝ }
 {
-    let mut places = [0usize; codes::PLACES];
-    let cell = shape.cell;
-    let end = first + n;
-    let mut i = first;
-    while i < end {
-        let at = i * cell;
-        let to = at + cell;
-        rebuild_row(shape, stripe, &mut places, k, plan, i, &mut spare[at..to]);
-        i += 1;
+    if n == 0 {
+        return;
     }
+    let others = n - 1;
+    run_rows(shape, stripe, k, plan, spare, first, others);
+    let cell = shape.cell;
+    let i = first + others;
+    let at = i * cell;
+    let to = at + cell;
+    rebuild_row(shape, stripe, k, plan, i, &mut spare[at..to]);
 }

@@ -1,5 +1,4 @@
 -- `spare::short::list_row` meets its contract. The equation holds the row's cell of the lost column, so that its place is in the list.
-use mathlib.Core.Path.{refl}
 use native.Mathlib.Omega.{arith}
 use Rattle.spare.proofs.Choice.{chosen-held}
 use Rattle.spare.proofs.ShortRows.{row-some, row-listed}
@@ -12,29 +11,22 @@ equation-of-requires c κs = search needs
 
 cells-of-requires : tie.Need-cells-of-requires
 cells-of-requires c κs =
-    let right = c .before .before .before .pre .0 in
-    (right .of .formed, omega (arith, c .before .equation-of .ensures, chosen-held _ _ _ _ right .equation), refl)
+    let pre = c .before .before .pre in
+    (pre .0 .of .formed, omega (arith, c .before .equation-of .ensures, chosen-held _ _ _ _ (pre .0) .equation), pre .1)
 
 sub-count : tie.Need-sub-count
-sub-count c =
-    let made = c .before .before in
-    row-some _ _ _ _ (made .before .before .pre .0) _ _ _ (made .equation-of .ensures) (c .cells-of .ensures)
+sub-count c = row-some _ _ _ _ (c .before .before .before .pre .0) _ _ _ (c .before .before .equation-of .ensures) (c .cells-of .ensures)
 
 cell-place-requires : tie.Need-cell-place-requires
 cell-place-requires c κs = search needs
 
-put-others-requires : tie.Need-put-others-requires
-put-others-requires c κs = search needs
-
-same-length : tie.Need-same-length
-same-length c = search needs
+leave-out-requires : tie.Need-leave-out-requires
+leave-out-requires c κs = search needs
 
 returns : tie.Need-returns
 returns c =
-    let listed = c .before .before .before .before .before .before in
-    let made = listed .before .before in
-    let pre = made .before .before .pre in
-    row-listed _ _ _ _ (pre .0) _ _ _ (made .equation-of .ensures) (listed .cells-of .ensures) _ _ (c .before .before .before .before .before .cell-place .ensures) (c .before .before .put-others .ensures)
+    let listed = c .before .before .before in
+    row-listed _ _ _ _ (listed .before .before .before .pre .0) _ _ _ (listed .before .before .equation-of .ensures) (listed .cells-of .ensures) _ _ (c .before .before .cell-place .ensures) (c .leave-out .ensures)
 
 pub list-row-spec : {M : Type 1} → statement M
 list-row-spec =
@@ -44,6 +36,5 @@ list-row-spec =
     cells-of-requires
     sub-count
     cell-place-requires
-    put-others-requires
-    same-length
+    leave-out-requires
     returns)

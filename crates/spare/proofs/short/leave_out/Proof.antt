@@ -1,31 +1,30 @@
--- `spare::short::put_others` meets its contract. The loop's invariant: the first j places are listed.
-use mathlib.Core.Path.{sym, _∙_}
+-- `spare::short::leave_out` meets its contract. The loop's invariant: among the first j places the last one stands in for the lost cell's.
 use Prim.Native.Nat.{_-_, _≤_, _<_}
 use native.Mathlib.Omega.{arith}
 use Rattle.spare.specs.Places.{OthersPut}
 use Rattle.spare.proofs.LeftOut.{others-none, others-more, others-end}
 use borrow.Author.Needs.{needs}
-use Rattle.spare.proofs.short.put_others.Statement.{statement}
-use Rattle.spare.proofs.short.put_others.Tie as tie
+use Rattle.spare.proofs.short.leave_out.Statement.{statement}
+use Rattle.spare.proofs.short.leave_out.Tie as tie
 
 abbrev Inv-loop : tie.InvT-loop
-Inv-loop cells n own places₀ last j₀ places j = (j ≤ n) × OthersPut j own last cells places
+Inv-loop places₀ n own last j₀ places j = (j ≤ n) × OthersPut j own last places₀ places
 
 abbrev μ-loop : tie.MeasureT-loop
-μ-loop cells n own places₀ last j₀ places j = n - j
+μ-loop places₀ n own last j₀ places j = n - j
 
 mul-last : tie.Need-mul-last Inv-loop μ-loop
-mul-last c = omega (arith, c .before .pre .1)
+mul-last c = omega (arith, c .pre .0)
 
 element-copy-out-last : tie.Need-element-copy-out-last Inv-loop μ-loop
-element-copy-out-last c = c .before .pre .1
+element-copy-out-last c = c .pre .0
 
 loop-holds : tie.Need-loop-holds Inv-loop μ-loop
-loop-holds c = (omega arith, others-none _ _ _ _ (c .before .before .pre .2))
+loop-holds c = (omega arith, others-none _ _ _ (c .before .pre .1))
 
 -- there are fewer than 32 of them
 few : (c : tie.In-loop Inv-loop μ-loop) → c .before .loop .j < 32
-few c = omega (arith, c .before .before .before .before .pre .1)
+few c = omega (arith, c .before .before .before .pre .0)
 
 mul-stand-in : tie.Need-mul-stand-in Inv-loop μ-loop
 mul-stand-in c = omega (arith, few c)
@@ -39,8 +38,8 @@ stand-in-requires c κs = search needs
 mul-places : tie.Need-mul-places Inv-loop μ-loop
 mul-places c = omega (arith, few (c .before .before))
 
-slice-write-places : tie.Need-slice-write-places Inv-loop μ-loop
-slice-write-places c = omega (arith, few (c .before .before), c .before .before .before .loop .inv .1 .long)
+element-write-places : tie.Need-element-write-places Inv-loop μ-loop
+element-write-places c = few (c .before .before)
 
 add-j : tie.Need-add-j Inv-loop μ-loop
 add-j c = omega (arith, few (c .before .before))
@@ -53,14 +52,11 @@ loop-again c =
     let at = c .before .before .before .loop in
     (omega arith, others-more _ _ _ _ _ _ (omega (arith, few (c .before .before))) (at .inv .1) (c .stand-in .ensures))
 
-same-length : tie.Need-same-length Inv-loop μ-loop
-same-length c = c .before .loop .inv .1 .long ∙ sym (c .before .before .before .before .pre .2)
-
 returns : tie.Need-returns Inv-loop μ-loop
 returns c = others-end _ _ _ _ _ _ (omega arith) (c .before .loop .inv .1)
 
-pub put-others-spec : {M : Type 1} → statement M
-put-others-spec =
+pub leave-out-spec : {M : Type 1} → statement M
+leave-out-spec =
     tie.close
     (tie.spec
     Inv-loop
@@ -72,9 +68,8 @@ put-others-spec =
     element-copy-out-stand-in
     stand-in-requires
     mul-places
-    slice-write-places
+    element-write-places
     add-j
     loop-less
     loop-again
-    same-length
     returns)
