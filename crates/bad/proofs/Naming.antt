@@ -3,7 +3,7 @@ use mathlib.Core.Path.{_≡_, refl, sym, ap, ap₂, _∙_, subst}
 use mathlib.Core.Logic.{_≢_}
 use mathlib.Core.List.{List}
 use mathlib.Core.Bool.{Bool, true, false, cond, _||_}
-use Prim.Native.Nat.{ℕ, zero, suc, _+_, _/_, _%_, _^_, _≤_, _<_}
+use Prim.Native.Nat.{ℕ, zero, suc, _+_, _/_, _%_, _^_, _<_}
 use native.Mathlib.Nat.{zero-add, mod-lt, mod-eq-of-lt}
 use native.Mathlib.Omega.{arith}
 use lib.Bits.{bitXor, xor-mod}
@@ -28,7 +28,7 @@ use Rattle.codes.proofs.Solutions.{total-zero, zero-total, solves-same}
 use Rattle.equation.specs.Window.{bytesAt, failsIn}
 use Rattle.equation.proofs.Windows.{not-failing}
 use Rattle.codes.proofs.Built.{built, Blank, built-long, built-at, built-byte}
-use Rattle.decide.specs.Survivors.{Undetermined, Restores}
+use Rattle.decide.specs.Survivors.{Undetermined}
 use Rattle.decide.specs.Solver.{mended, OnlyThere, Solver}
 use Rattle.decide.proofs.Determined.{kept-cell, columns-determined}
 use Rattle.lanes.specs.Lanes.{Passes}

@@ -7,11 +7,11 @@ use Prim.Native.Nat.{ℕ, _+_, _-_, _≤_, _<_}
 use native.Mathlib.Omega.{arith}
 use lib.Bits.{bitXor, bitAnd}
 use lib.Dec.{eqb, ltb}
-use lib.ListN.{length, getD, set, length-set}
+use lib.ListN.{length, getD, set}
 use lib.Seq.{getD-set-same, getD-set-other}
 use borrow.Author.Tests.{eq-eqb, ne-eqb, lt-ltb, ltb-true}
 use Rattle.xor.specs.Xor.{_⊕_, xors}
-use Rattle.xor.proofs.Cases.{by-test, by-equal, by-less, clash, and-left, and-right}
+use Rattle.xor.proofs.Cases.{by-test, by-equal, clash, and-left, and-right}
 use Rattle.xor.proofs.Algebra.{⊕-is, ⊕-zero, ⊕-assoc}
 use Rattle.xor.proofs.Sums.{xors-none, xors-more, xors-same}
 use Rattle.bits.specs.Bit.{bit, IsLowest}

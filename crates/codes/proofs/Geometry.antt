@@ -37,12 +37,6 @@ module _ (s : Shape) where
   unfolding isThere
   there-after j l = or-right (ltb j (gap s)) (le-leb (s .p - 1) j l)
 
-  -- what is not there lies in the gap
-  pub there-not : (j : ℕ) → isThere s j ≡ false → (gap s ≤ j) × (j < s .p - 1)
-  there-not j h =
-      by-less j (gap s) (λ l. clash (there-before j l) h)
-      (λ l. by-less j (s .p - 1) (λ k. (l, k)) (λ k. clash (there-after j k) h))
-
   -- where no column is missing, each is there and lies by its number
   pub there-all : missing s ≡ 0 → (j : ℕ) → isThere s j ≡ true
   there-all e j = by-less j (s .p - 1) (λ l. there-before j (omega arith)) (there-after j)

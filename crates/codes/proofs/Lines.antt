@@ -1,22 +1,21 @@
 -- RDP's equations as tracks: each track goes once through the cells that its equation sums, those that don't exist too. The extent of the codes.
 use mathlib.Core.Path.{_≡_, refl, sym, ap, ap₂, _∙_, subst}
-use mathlib.Core.Logic.{_≢_}
-use mathlib.Core.Bool.{true, not, _&&_}
+use mathlib.Core.Bool.{true, _&&_}
 use Prim.Native.Nat.{ℕ, _+_, _-_, _*_, _/_, _%_, _≤_, _<_}
-use native.Mathlib.Nat.{mod-lt, mod-eq-of-lt, mod-add-mod, add-mod-mod, div-lt-iff-lt-mul, div-add-mod', add-comm}
+use native.Mathlib.Nat.{mod-lt, mod-eq-of-lt, mod-add-mod, add-mod-mod, div-lt-iff-lt-mul, div-add-mod'}
 use native.Mathlib.Omega.{arith}
 use lib.Arith.{digits-lt, digits-div, digits-mod}
 use lib.Dec.{eqb, ltb}
-use borrow.Author.Tests.{lt-ltb, eq-eqb, ne-eqb, ltb-true, eqb-true, eqb-false, not-true}
-use Rattle.xor.proofs.Cases.{by-equal, and-left, and-right, and-both}
+use borrow.Author.Tests.{lt-ltb, eq-eqb, ltb-true, eqb-true}
+use Rattle.xor.proofs.Cases.{and-left, and-right, and-both}
 use Rattle.xor.specs.Xor.{xors}
 use Rattle.xor.proofs.Sums.{xors-same, Lists, xors-listed}
 use Rattle.codes.specs.declared.Shape.{Shape}
 use Rattle.codes.specs.Shape.{rows, columns, cells, cellNumber, equations, WellFormed}
 use Rattle.codes.specs.Equations.{Equation, rdp, hcode, xcode, equation, rdpRow, rdpDiagonal, hcodeRow, hcodeAntiDiagonal, xcodeFirst, xcodeSecond}
-use Rattle.codes.specs.Encoded.{parityCell, sumsCell, sumOver}
+use Rattle.codes.specs.Encoded.{sumsCell, sumOver}
 use Rattle.codes.proofs.Shapes.{low, high, rows-low, few-columns, rdp-is, hcode-is, xcode-is, rows-of, columns-of, equations-of, first-of, second-of}
-use Rattle.codes.proofs.Residues.{there-and-back, steps-back, turns}
+use Rattle.codes.proofs.Residues.{steps-back, turns}
 
 -- a track of `count` cells: it starts in a row and a column, and each next cell is `fall` rows down and `step` columns on, mod p
 pub record Track : Type 0 where

@@ -1,6 +1,6 @@
 -- The equations in their order: each parity cell is in the stripe and no other's, and no equation up to its own sums it.
 -- One computed test over the three codes and the ten primes, on the rows and columns of the parity cells.
-use mathlib.Core.Path.{_≡_, refl, sym, ap, ap₂, _∙_}
+use mathlib.Core.Path.{_≡_, refl, sym, _∙_}
 use mathlib.Core.Bool.{Bool, true, false, cond, not, _&&_, _||_, Bool·beq}
 use Prim.Native.Nat.{ℕ, _+_, _-_, _*_, _%_, _≤_, _<_}
 use native.Mathlib.Omega.{arith}
@@ -11,7 +11,7 @@ use Rattle.xor.proofs.Cases.{by-less, clash, and-left, and-right, and-both, not
 use Rattle.xor.proofs.Sets.{neither-left, neither-right, any-none}
 use Rattle.codes.specs.declared.Shape.{Shape}
 use Rattle.codes.specs.declared.Width.the-variants.{Full}
-use Rattle.codes.specs.Equations.{Equation, codeOf, equation}
+use Rattle.codes.specs.Equations.{codeOf, equation}
 use Rattle.codes.specs.Shape.{lastCode, listed, rows, columns, equations, cells, WellFormed}
 use Rattle.codes.specs.Encoded.{parityCell, sumsCell}
 use Rattle.codes.proofs.Shapes.{each-prime, each-code}

@@ -1,6 +1,6 @@
 -- The refusals of a shape, of a lent stripe, of a small write and of calls that name cells or columns: which faults each call has after which, and what holds
 -- where there is none. That the faults are listed in order is seen from their numbers (`refl`).
-use mathlib.Core.Path.{_≡_, refl, _∙_}
+use mathlib.Core.Path.{_≡_, refl}
 use mathlib.Core.List.{List, [], _∷_}
 use mathlib.Core.Bool.{Bool, true, false, not}
 use Prim.Native.Nat.{ℕ, _<_}

@@ -122,23 +122,13 @@ module _ (s : Shape) where
   pub extents-other : WellFormed s → s .code ≢ 3 → (s .p - 1 ≡ rows s) × (s .p + 1 ≡ columns s) × (2 * (s .p - 1) ≡ equations s)
   extents-other w n = by-equal (s .code) 1 (λ e. extents (rdp (s .p)) (rdp-is e)) (λ n1. extents (hcode (s .p)) (hcode-is (hcode-left s w n1 n)))
 
-  pub equations-other : WellFormed s → s .code ≢ 3 → 2 * (s .p - 1) ≡ equations s
-  equations-other w n = extents-other w n .2
-
   pub columns-third : s .code ≡ 3 → s .p ≡ columns s
   columns-third e = columns-of (xcode (s .p)) (xcode-is e)
-
-  pub equations-third : s .code ≡ 3 → 2 * s .p ≡ equations s
-  equations-third e = equations-of (xcode (s .p)) (xcode-is e)
 
   -- cells and bytes, as the code works them out
   pub cells-of : (a b : ℕ) → a ≡ columns s → b ≡ rows s → a * b ≡ cells s
   unfolding cells
   cells-of a b p q = ap₂ _*_ p q
-
-  pub disks-of : (a b : ℕ) → a ≡ columns s → b ≡ missing s → a - b ≡ disks s
-  unfolding disks
-  disks-of a b p q = ap₂ _-_ p q
 
   pub existing-of : (a b : ℕ) → a ≡ disks s → b ≡ rows s → a * b ≡ existing s
   unfolding existing

@@ -14,13 +14,13 @@ use Rattle.codes.specs.Shape.{rows, equations, disks, cellNumber, missin
 use Rattle.codes.specs.Geometry.{gap, isThere, columnOf, liesAt, callersCell}
 use Rattle.codes.specs.Equations.{rdpRow, rdpDiagonal}
 use Rattle.codes.specs.Encoded.{parityCell, sumsCell}
-use Rattle.codes.specs.Lines.{lineCount, lineCell, Walks}
+use Rattle.codes.specs.Lines.{lineCount, Walks}
 use Rattle.codes.proofs.Shapes.{low, high, missing-low, disks-is}
 use Rattle.codes.proofs.Residues.{wrapped}
 use Rattle.codes.proofs.Lines.{rdp-rows, rdp-columns, rdp-n, rdp-row-is}
 use Rattle.codes.proofs.Positions.{families, sums-of, rdp-first, rdp-second, rdp-second-is}
 use Rattle.codes.proofs.Geometry.{there-cases, column-before, column-after, lies-before, lies-after, callers-at}
-use Rattle.codes.proofs.Stepping.{walk-is, count-plain, count-extra, cell-walked, cell-extra, Goes, goes-walks}
+use Rattle.codes.proofs.Stepping.{walk-is, count-plain, count-extra, cell-walked, cell-extra, goes-walks}
 
 module _ (s : Shape) (w : WellFormed s) (is-rdp : s .code ≡ 1) where
   abbrev pub m : ℕ

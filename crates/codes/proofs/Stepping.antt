@@ -17,7 +17,7 @@ use Rattle.codes.specs.declared.Line.{Line}
 use Rattle.codes.specs.Shape.{rows, columns, cells, disks, cellNumber, WellFormed}
 use Rattle.codes.specs.Geometry.{isThere, cellThere, columnOf, liesAt, callersCell}
 use Rattle.codes.specs.Encoded.{parityCell, sumsCell, sumOver}
-use Rattle.codes.specs.Lines.{walked, Short, lineCount, lineCell, Walks}
+use Rattle.codes.specs.Lines.{walked, lineCount, lineCell, Walks}
 use Rattle.codes.proofs.Shapes.{existing-high, cells-high}
 use Rattle.codes.proofs.Positions.{cell-inside, same-row, same-column}
 use Rattle.codes.proofs.Geometry.{column-there, is-there, lies-column, column-lies, number-at, row-at, column-at, cell-there-at, callers-at, callers-inside}

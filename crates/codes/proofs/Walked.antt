@@ -2,7 +2,7 @@
 use mathlib.Core.Path.{_≡_, refl, sym, ap, ap₂, _∙_, subst}
 use mathlib.Core.Logic.{_≢_, _⊎_}
 use mathlib.Core.List.{List}
-use mathlib.Core.Bool.{true, cond}
+use mathlib.Core.Bool.{cond}
 use Prim.Native.Nat.{ℕ, zero, suc, _+_, _*_, _≤_, _<_}
 use native.Mathlib.Nat.{mul-le-mul, add-mul}
 use native.Mathlib.Omega.{arith}
@@ -20,7 +20,7 @@ use Rattle.codes.specs.declared.Sources.{Sources}
 use Rattle.codes.specs.Shape.{cells, equations, stripeLength, WellFormed}
 use Rattle.codes.specs.Geometry.{callersCell, place}
 use Rattle.codes.specs.Encoded.{parityCell, sumsCell, byteAt, sumOver, total}
-use Rattle.codes.specs.Lines.{walked, Short, lineCount, lineCell, Walks, Placed, PlacedAll, Found, Holding}
+use Rattle.codes.specs.Lines.{walked, Short, Walks, Placed, PlacedAll, Found, Holding}
 use Rattle.codes.proofs.Ordered.{ordered}
 use Rattle.codes.proofs.Geometry.{place-inside, place-small, place-apart, parity-there, byte-there, byte-missing}
 use Rattle.codes.proofs.Stepping.{walked-next, count-plain, count-extra, cell-walked, cell-extra}

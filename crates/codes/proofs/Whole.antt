@@ -10,17 +10,17 @@ use borrow.Author.Tests.{lt-ltb, le-ltb, eq-eqb, ne-eqb, ltb-true, eqb-true, eqb
 use Rattle.xor.proofs.Cases.{by-less, and-left, and-right, and-both}
 use Rattle.codes.specs.declared.Shape.{Shape}
 use Rattle.codes.specs.declared.Line.{Line}
-use Rattle.codes.specs.Shape.{rows, columns, disks, equations, cellNumber, missing, WellFormed}
-use Rattle.codes.specs.Geometry.{columnOf, callersCell}
-use Rattle.codes.specs.Equations.{Equation, hcodeRow, hcodeAntiDiagonal, xcodeFirst, xcodeSecond, equation}
+use Rattle.codes.specs.Shape.{rows, columns, equations, cellNumber, missing, WellFormed}
+use Rattle.codes.specs.Geometry.{callersCell}
+use Rattle.codes.specs.Equations.{Equation, hcodeRow, hcodeAntiDiagonal, equation}
 use Rattle.codes.specs.Encoded.{parityCell, sumsCell}
-use Rattle.codes.specs.Lines.{lineCount, lineCell, Walks}
+use Rattle.codes.specs.Lines.{lineCount, Walks}
 use Rattle.codes.proofs.Shapes.{low, high, missing-other, disks-is}
 use Rattle.codes.proofs.Residues.{wrapped}
-use Rattle.codes.proofs.Lines.{hcode-rows, hcode-columns, hcode-n, hcode-row-is, hcode-anti-is, xcode-rows, xcode-columns, xcode-n, xcode-first-is, xcode-second-is}
+use Rattle.codes.proofs.Lines.{hcode-rows, hcode-columns, hcode-n, hcode-row-is, xcode-rows, xcode-columns, xcode-n, xcode-first-is, xcode-second-is}
 use Rattle.codes.proofs.Positions.{sums-of, hcode-first, hcode-second, xcode-first-at, xcode-second-at}
 use Rattle.codes.proofs.Geometry.{lies-all, column-all, callers-at}
-use Rattle.codes.proofs.Stepping.{walk-is, count-plain, cell-walked, Goes, goes-walks}
+use Rattle.codes.proofs.Stepping.{walk-is, count-plain, cell-walked, goes-walks}
 
 -- a row counted from the last but two
 lifted : (p c k : ℕ) → k < p - 2 → c + 1 + k ≡ p + c - (p - 3 - k) - 2

@@ -4,7 +4,7 @@ use mathlib.Core.List.{List}
 use mathlib.Core.Bool.{Bool, false, cond}
 use Prim.Native.Nat.{ℕ, _/_, _<_}
 use lib.Dec.{eqb}
-use lib.ListN.{length, getD}
+use lib.ListN.{getD}
 use borrow.Author.Tests.{ne-eqb}
 use Rattle.xor.specs.Xor.{_⊕_}
 use Rattle.xor.proofs.Cases.{clash}
@@ -12,7 +12,6 @@ use Rattle.xor.proofs.Algebra.{⊕-zero}
 use Rattle.xor.proofs.Sums.{xors-zero}
 use Rattle.codes.specs.declared.Shape.{Shape}
 use Rattle.codes.specs.Shape.{rows, columns, cells, WellFormed}
-use Rattle.codes.specs.Encoded.{byteAt}
 use Rattle.codes.specs.Agree.{inColumns}
 use Rattle.codes.proofs.Parity.{same-bytes}
 use Rattle.columns.proofs.TwoColumns.{two-columns-determined}

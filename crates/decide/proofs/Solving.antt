@@ -26,7 +26,6 @@ use Rattle.codes.specs.declared.Shape.{Shape}
 use Rattle.codes.specs.Shape.{cells, equations, WellFormed}
 use Rattle.codes.specs.Encoded.{total, Solves}
 use Rattle.codes.specs.Holders.{holds}
-use Rattle.codes.proofs.Ordered.{ordered}
 use Rattle.codes.proofs.Shapes.{small-equations}
 use Rattle.codes.proofs.Solutions.{total-zero, zero-total, total-holds, solves-same}
 use Rattle.decide.specs.declared.Decided.{Decided}

@@ -17,7 +17,7 @@ use Rattle.xor.proofs.Sums.{xors-none, xors-more, xors-same}
 use Rattle.xor.proofs.Runs.{first-inside, first-sum, put-same, says-same}
 use Rattle.bits.specs.Bit.{bit, Members, Union}
 use Rattle.codes.specs.declared.Shape.{Shape}
-use Rattle.codes.specs.Shape.{cells, equations, stripeLength, WellFormed}
+use Rattle.codes.specs.Shape.{cells, equations, WellFormed}
 use Rattle.codes.specs.Encoded.{byteAt, total}
 use Rattle.codes.proofs.Shapes.{small-equations}
 use Rattle.codes.specs.Geometry.{cellThere, place}

@@ -7,7 +7,6 @@ use native.Mathlib.Nat.{zero-add, add-assoc, mul-zero, mod-lt, add-mod-mod, mod-
 use native.Mathlib.Omega.{arith}
 use lib.Bits.{bitAnd, bitOr, and-le-r, mask-lt}
 use lib.Count.{ones, ones-le}
-use lib.Dec.{eqb, ltb}
 use borrow.Author.Tests.{lt-ltb, le-ltb, eq-eqb, ne-eqb}
 use Rattle.xor.specs.Sets.{count}
 use Rattle.xor.proofs.Cases.{not-passed}

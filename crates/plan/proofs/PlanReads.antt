@@ -10,7 +10,7 @@ use lib.Dec.{eqb, ltb}
 use borrow.Author.Tests.{lt-ltb, le-ltb, eq-eqb, ne-eqb}
 use Rattle.xor.specs.Sets.{count}
 use Rattle.xor.proofs.Cases.{by-test, by-equal, by-less}
-use Rattle.xor.proofs.Sets.{count-same, count-more, count-insert, count-never, count-all, count-not, count-round}
+use Rattle.xor.proofs.Sets.{count-same, count-more, count-insert, count-all, count-not, count-round}
 use Rattle.bits.specs.Bit.{bit}
 use Rattle.bits.proofs.Bits.{bit-above, ones-bits}
 use Rattle.codes.specs.declared.Shape.{Shape}

@@ -1,6 +1,6 @@
 -- Sets of numbers below p turned by so many places: a set beside itself p places on, and what is moved down from that.
-use mathlib.Core.Path.{_≡_, refl, sym, ap, ap₂, _∙_}
-use mathlib.Core.Bool.{Bool, false, _||_, or-false}
+use mathlib.Core.Path.{_≡_, sym, ap, ap₂, _∙_}
+use mathlib.Core.Bool.{false, _||_, or-false}
 use Prim.Native.Nat.{ℕ, zero, suc, _+_, _-_, _*_, _/_, _%_, _^_, _≤_, _<_}
 use native.Mathlib.Nat.{add-comm, mul-assoc, pow-suc, mul-div-cancel, mul-mod-left, mod-eq-of-lt, add-mod-right, lt-of-lt-of-le, zero-lt-suc}
 use native.Mathlib.Omega.{arith}

@@ -2,7 +2,7 @@
 use mathlib.Core.Path.{_≡_, refl, sym, ap, _∙_}
 use mathlib.Core.List.{List}
 use mathlib.Core.Bool.{Bool, true, false, not, _&&_}
-use Prim.Native.Nat.{ℕ, _+_, _*_, _<_}
+use Prim.Native.Nat.{ℕ, _<_}
 use lib.Dec.{eqb}
 use lib.ListN.{getD}
 use borrow.Author.Tests.{eq-eqb, eqb-true, not-true, not-false}
@@ -14,7 +14,6 @@ use Rattle.elimination.specs.Verdict.{residue, rebuilt, Consistent}
 use Rattle.elimination.proofs.Elimination.{passed-all, stopped-at}
 use Rattle.codes.specs.declared.Shape.{Shape}
 use Rattle.codes.specs.Shape.{cells, equations, WellFormed}
-use Rattle.codes.specs.Encoded.{byteAt}
 use Rattle.codes.specs.Holders.{holds}
 use Rattle.codes.proofs.Parity.{same-bytes}
 use Rattle.codes.proofs.Built.{built, Blank, built-at}

@@ -3,7 +3,7 @@ use mathlib.Core.Path.{_≡_, refl, sym, ap, subst, _∙_}
 use mathlib.Core.Logic.{_≢_}
 use mathlib.Core.List.{List, []}
 use mathlib.Core.Bool.{Bool, true, false, not}
-use Prim.Native.Nat.{ℕ, _+_, _*_, _≤_, _<_}
+use Prim.Native.Nat.{ℕ, _≤_, _<_}
 use lib.Dec.{eqb}
 use lib.ListN.{length, getD}
 use borrow.Author.Tests.{eq-eqb, eqb-true, not-false}
@@ -16,7 +16,6 @@ use Rattle.codes.specs.Equations.{equation}
 use Rattle.codes.specs.Encoded.{parityCell, sumsCell, sumOver, Solves, byteAt, Encoded}
 use Rattle.codes.specs.Refusals.{refusal, cellsFaults, columnsFaults}
 use Rattle.codes.proofs.Refused.{cells-accepted, columns-accepted}
-use Rattle.codes.proofs.Ordered.{ordered}
 use Rattle.codes.proofs.Parity.{same-bytes}
 use Rattle.codes.specs.Agree.{Agree, callersColumns}
 use Rattle.decide.specs.Survivors.{Undetermined, Restores, named}

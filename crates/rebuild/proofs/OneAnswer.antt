@@ -10,7 +10,7 @@ use Rattle.codes.specs.declared.Shape.{Shape}
 use Rattle.codes.specs.Shape.{WellFormed}
 use Rattle.codes.specs.Encoded.{byteAt}
 use Rattle.codes.specs.Refusals.{refusal, cellsFaults, columnsFaults}
-use Rattle.codes.proofs.Refused.{accepted, cells-accepted, columns-accepted}
+use Rattle.codes.proofs.Refused.{cells-accepted, columns-accepted}
 use Rattle.codes.proofs.Parity.{same-bytes}
 use Rattle.codes.specs.Agree.{Agree, callersColumns}
 use Rattle.decide.specs.Survivors.{Undetermined, Restores, named}

@@ -2,20 +2,19 @@
 use mathlib.Core.Path.{_≡_, refl, sym, ap, ap₂, _∙_, subst}
 use mathlib.Core.Logic.{_≢_, inl, inr, ⊎-elim}
 use mathlib.Core.List.{List}
-use mathlib.Core.Bool.{Bool, true, false, cond, not, _&&_}
+use mathlib.Core.Bool.{Bool, false, cond, not, _&&_}
 use Prim.Native.Nat.{ℕ, _<_}
 use native.Mathlib.Omega.{arith}
-use lib.Dec.{eqb}
 use lib.ListN.{length, getD}
-use borrow.Author.Tests.{eq-eqb, ne-eqb, lt-ltb, le-leb}
+use borrow.Author.Tests.{lt-ltb, le-leb}
 use Rattle.xor.proofs.Cases.{clash, not-passed}
 use Rattle.bits.specs.Bit.{IsLowest}
 use Rattle.codes.specs.declared.Shape.{Shape}
 use Rattle.codes.specs.Shape.{cells, equations, stripeLength, WellFormed}
-use Rattle.codes.specs.Encoded.{parityCell, parityByte, byteAt, Encoded, fails}
+use Rattle.codes.specs.Encoded.{byteAt, Encoded, fails}
 use Rattle.codes.proofs.Parity.{same-bytes}
 use Rattle.codes.proofs.Solutions.{solves-same}
-use Rattle.decide.specs.Survivors.{Undetermined, Restores}
+use Rattle.decide.specs.Survivors.{Restores}
 use Rattle.decide.specs.Solver.{mended, Solver}
 use Rattle.decide.proofs.Determined.{determined, kept-cell}
 use Rattle.equation.specs.Window.{bytesAt, failsIn}

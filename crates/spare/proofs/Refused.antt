@@ -1,10 +1,9 @@
 -- The refusals of a run: which faults it has after which, and what holds where there is none.
 use mathlib.Core.Path.{_≡_, refl}
 use mathlib.Core.List.{[], _∷_}
-use mathlib.Core.Bool.{not, _&&_}
+use mathlib.Core.Bool.{not}
 use Prim.Native.Nat.{ℕ, _*_, _<_}
-use lib.Dec.{eqb, leb}
-use borrow.Author.Tests.{eq-eqb, eqb-true, leb-false, not-false}
+use borrow.Author.Tests.{eqb-true, leb-false, not-false}
 use Rattle.codes.specs.declared.Shape.{Shape}
 use Rattle.codes.specs.Shape.{rows, disks, stripeLength, WellFormed}
 use Rattle.codes.specs.Geometry.{columnOf}

@@ -1,5 +1,5 @@
 -- A row of a stripe some of whose columns don't exist: from the list of all cells of the chosen equation to that of the others.
-use mathlib.Core.Path.{_≡_, sym, _∙_, subst}
+use mathlib.Core.Path.{_≡_, _∙_, subst}
 use mathlib.Core.List.{List}
 use mathlib.Core.Bool.{true}
 use Prim.Native.Nat.{ℕ, _-_, _≤_}

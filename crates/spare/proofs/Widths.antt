@@ -1,22 +1,22 @@
 -- A shape none of whose data columns is missing, and the same with no number of them given: rows are rebuilt alike.
 use mathlib.Core.Path.{_≡_, refl, sym, ap, ap₂, _∙_}
 use mathlib.Core.List.{List}
-use mathlib.Core.Bool.{Bool, true, cond, not, _&&_}
-use Prim.Native.Nat.{ℕ, _+_, _-_, _*_, _/_, _%_, _≤_, _<_}
+use mathlib.Core.Bool.{Bool, cond, not, _&&_}
+use Prim.Native.Nat.{ℕ, _+_, _-_, _*_, _/_, _%_, _≤_}
 use lib.Dec.{eqb}
-use lib.ListN.{length, getD}
+use lib.ListN.{getD}
 use Rattle.xor.proofs.Sums.{xors-same}
 use Rattle.codes.specs.declared.Shape.{Shape}
 use Rattle.codes.specs.declared.Width.the-variants.{Full}
 use Rattle.codes.specs.Shape.{rows, columns, cells, missing, disks, existing, stripeLength, cellNumber, WellFormed}
 use Rattle.codes.specs.Equations.{equation}
-use Rattle.codes.specs.Geometry.{isThere, cellThere, liesAt, callersCell, place}
+use Rattle.codes.specs.Geometry.{cellThere, callersCell, place}
 use Rattle.codes.specs.Encoded.{parityCell, sumsCell, byteAt}
 use Rattle.codes.specs.Holders.{holds}
 use Rattle.codes.proofs.Geometry.{there-all, lies-all}
 use Rattle.plan.specs.Plan.{diagonal, chosen, isAccepted}
 use Rattle.plan.specs.Right.{RdpColumn}
-use Rattle.spare.specs.Right.{SpareRight, RunRight}
+use Rattle.spare.specs.Right.{RunRight}
 use Rattle.spare.specs.Run.{others, rebuiltByte, spareByte, RowsRebuilt}
 
 -- no number of data columns is given

@@ -1,8 +1,7 @@
 -- The refusals of run and show, which are for RDP alone: document 01, "Refusal numbers", and document 02.
 use mathlib.Core.List.{List, [], _∷_, _++_}
-use mathlib.Core.Bool.{not, _&&_}
+use mathlib.Core.Bool.{not}
 use Prim.Native.Nat.{ℕ, _*_}
-use lib.Dec.{eqb, leb}
 use Rattle.codes.specs.declared.Shape.{Shape}
 use Rattle.codes.specs.Shape.{rows, disks, stripeLength}
 use Rattle.codes.specs.Geometry.{columnOf}

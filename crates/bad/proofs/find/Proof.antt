@@ -1,7 +1,6 @@
 -- `bad::find` meets its contract. No equation fails, or a column is sought for the first that does.
 use mathlib.Core.Path.{_∙_}
 use Rattle.bad.proofs.Naming.{clean-in, first-below}
-use borrow.Author.Needs.{needs}
 use Rattle.bad.proofs.find.Statement.{statement}
 use Rattle.bad.proofs.find.Tie as tie
 

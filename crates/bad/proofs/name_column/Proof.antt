@@ -7,7 +7,6 @@ use Rattle.codes.specs.Shape.{columns, disks}
 use Rattle.codes.specs.Geometry.{isThere}
 use Rattle.codes.proofs.Geometry.{column-there, is-there}
 use Rattle.bad.proofs.Naming.{Sought, named-column, none-named, not-this}
-use borrow.Author.Needs.{needs}
 use Rattle.bad.proofs.name_column.Statement.{statement}
 use Rattle.bad.proofs.name_column.Tie as tie
 

@@ -1,6 +1,5 @@
 -- `codes::disk_count` meets its contract. All columns exist, or the data columns that are given and two more.
-use mathlib.Core.Path.{_≡_, sym, ap, _∙_}
-use Prim.Native.Nat.{ℕ, _+_, _-_}
+use Prim.Native.Nat.{_-_}
 use native.Mathlib.Omega.{arith}
 use Rattle.codes.proofs.Shapes.{low, high, full-missing, data-known, disks-is, rdp-is, columns-of}
 use Rattle.codes.specs.Equations.{rdp}

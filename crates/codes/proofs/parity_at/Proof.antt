@@ -4,7 +4,6 @@ use Prim.Native.Nat.{ℕ, _<_}
 use Rattle.codes.specs.Shape.{columns, cellNumber}
 use Rattle.codes.specs.Encoded.{isParity}
 use Rattle.codes.proofs.Geometry.{column-there}
-use borrow.Author.Needs.{needs}
 use Rattle.codes.proofs.parity_at.Statement.{statement}
 use Rattle.codes.proofs.parity_at.Tie as tie
 

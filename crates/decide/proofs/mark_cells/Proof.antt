@@ -3,7 +3,7 @@ use mathlib.Core.Path.{ap}
 use Prim.Native.Nat.{ℕ, _-_, _≤_, _<_}
 use native.Mathlib.Omega.{arith}
 use lib.Dec.{eqb}
-use lib.ListN.{length, getD}
+use lib.ListN.{length}
 use Rattle.codes.proofs.Shapes.{cells-high}
 use Rattle.codes.proofs.Geometry.{cell-of-inside}
 use Rattle.decide.proofs.Marks.{Marked, ofList, marked-none, marked-one, named-all}

@@ -11,7 +11,6 @@ use Rattle.plan.proofs.Column.{last-row, last-column}
 use Rattle.plan.proofs.Accepted.{plan-low}
 use Rattle.plan.proofs.Rule.{some-power}
 use Rattle.plan.proofs.ByColumns.{column-few, own-reads, taken-most, count-last, count-below}
-use borrow.Author.Needs.{needs}
 use Rattle.plan.proofs.column_reads.Statement.{statement}
 use Rattle.plan.proofs.column_reads.Tie as tie
 

@@ -1,6 +1,6 @@
 -- `plan::reads_by` meets its contract. In the loop `reads` is what is read of the first d columns that exist.
-use mathlib.Core.Path.{_≡_, refl, sym, ap, _∙_, subst}
-use Prim.Native.Nat.{ℕ, _+_, _-_, _≤_, _<_}
+use mathlib.Core.Path.{_≡_, sym, ap, _∙_, subst}
+use Prim.Native.Nat.{_+_, _-_, _≤_, _<_}
 use native.Mathlib.Omega.{arith}
 use Rattle.codes.specs.Shape.{disks}
 use Rattle.codes.specs.Geometry.{columnOf}
@@ -10,7 +10,6 @@ use Rattle.plan.specs.Right.{RdpColumn}
 use Rattle.plan.proofs.Column.{lying}
 use Rattle.plan.proofs.Counting.{sum-none, sum-next}
 use Rattle.plan.proofs.ByColumns.{firstReads, column-few, first-few, reads-columns}
-use borrow.Author.Needs.{needs}
 use Rattle.plan.proofs.reads_by.Statement.{statement}
 use Rattle.plan.proofs.reads_by.Tie as tie
 

@@ -1,5 +1,4 @@
 -- `xor::put_sum` meets its contract. The loop's invariant: the run is stored up to `done`, from runs that are as they were, since they are apart from it.
-use mathlib.Core.Path.{refl}
 use Prim.Native.Nat.{_+_, _-_, _≤_}
 use native.Mathlib.Omega.{arith}
 use lib.ListN.{length}

@@ -1,5 +1,5 @@
 -- `xor::put_sum_listed` meets its contract. The loop's invariant: the first `done` bytes are stored.
-use mathlib.Core.Path.{_≡_, refl}
+use mathlib.Core.Path.{refl}
 use Prim.Native.Nat.{_+_, _-_, _≤_}
 use native.Mathlib.Omega.{arith}
 use lib.ListN.{length}

@@ -1,7 +1,6 @@
 -- `zijraduf::shape_from` meets its contract. A number of data columns is given, or not.
 use mathlib.Core.Path.{refl}
 use borrow.Author.Tests.{eq-eqb, ne-eqb}
-use borrow.Author.Needs.{needs}
 use Rattle.zijraduf.proofs.shape_from.Statement.{statement}
 use Rattle.zijraduf.proofs.shape_from.Tie as tie
 

@@ -1,6 +1,6 @@
 -- `codes::hcode::line` meets its contract. Each line goes through the columns but one.
-use mathlib.Core.Path.{_≡_, refl, sym, ap, _∙_, subst}
-use Prim.Native.Nat.{ℕ, _+_, _-_, _*_, _<_}
+use mathlib.Core.Path.{refl}
+use Prim.Native.Nat.{_+_, _-_, _<_}
 use native.Mathlib.Omega.{arith}
 use Rattle.codes.proofs.Shapes.{low, high}
 use Rattle.codes.proofs.Lines.{hcode-n, hcode-anti-is}

@@ -1,6 +1,5 @@
 -- `codes::layout::data_columns` meets its contract. All of them exist, or those that are given.
-use mathlib.Core.Path.{_≡_, sym, ap, _∙_}
-use Prim.Native.Nat.{ℕ, _+_, _-_}
+use Prim.Native.Nat.{_-_}
 use native.Mathlib.Omega.{arith}
 use Rattle.codes.proofs.Shapes.{low, full-missing, data-known}
 use borrow.Author.Needs.{needs}

@@ -1,6 +1,6 @@
 -- `codes::layout::lies_at` meets its contract. The data columns that exist lie by their numbers, and the others behind them.
-use mathlib.Core.Path.{_≡_, sym, ap, _∙_}
-use Prim.Native.Nat.{ℕ, _+_, _-_}
+use mathlib.Core.Path.{sym}
+use Prim.Native.Nat.{_-_}
 use native.Mathlib.Omega.{arith}
 use Rattle.codes.proofs.Shapes.{low, full-missing, data-known}
 use Rattle.codes.proofs.Geometry.{there-cases, lies-before, lies-after, lies-all}

@@ -1,5 +1,5 @@
 -- `codes::rdp::line` meets its contract. Rows and diagonals over the data columns that exist, and the cell of the row parity column.
-use mathlib.Core.Path.{_≡_, refl, sym, ap, _∙_, subst}
+use mathlib.Core.Path.{refl, ap, _∙_}
 use mathlib.Core.Bool.{cond}
 use Prim.Native.Nat.{ℕ, _+_, _-_, _*_, _<_}
 use native.Mathlib.Omega.{arith}

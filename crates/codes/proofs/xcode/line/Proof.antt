@@ -1,6 +1,6 @@
 -- `codes::xcode::line` meets its contract. Each line goes through p - 2 columns, round after the last.
-use mathlib.Core.Path.{_≡_, refl, sym, ap, _∙_, subst}
-use Prim.Native.Nat.{ℕ, _+_, _-_, _*_, _%_, _≤_, _<_}
+use mathlib.Core.Path.{_≡_, refl}
+use Prim.Native.Nat.{ℕ, _-_, _*_, _%_, _≤_, _<_}
 use native.Mathlib.Omega.{arith}
 use Rattle.codes.specs.declared.Shape.{Shape}
 use Rattle.codes.specs.Shape.{WellFormed}

@@ -1,6 +1,5 @@
 -- `codes::xcode::parity` meets its contract. Every column lies by its number.
-use mathlib.Core.Path.{_≡_, refl, sym, ap, _∙_, subst}
-use Prim.Native.Nat.{ℕ, _+_, _-_, _*_, _<_}
+use Prim.Native.Nat.{_-_, _<_}
 use native.Mathlib.Omega.{arith}
 use Rattle.codes.proofs.Shapes.{low, high}
 use Rattle.codes.proofs.Lines.{xcode-n}

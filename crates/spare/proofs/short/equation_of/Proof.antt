@@ -1,6 +1,6 @@
 -- `spare::short::equation_of` meets its contract: a row's equation, or that of its diagonal.
-use mathlib.Core.Path.{sym, ap, ap₂, _∙_}
-use Prim.Native.Nat.{ℕ, _+_, _-_, _<_}
+use mathlib.Core.Path.{sym, ap₂, _∙_}
+use Prim.Native.Nat.{_+_, _-_, _<_}
 use native.Mathlib.Nat.{mod-lt}
 use native.Mathlib.Omega.{arith}
 use Rattle.bits.proofs.Masks.{bit-clear, bit-set}
