@@ -1,4 +1,4 @@
--- Answers that are enums in Rattle, in numbers: any two that an exported function may give are equal, since any two of the Rattle call are.
+-- Shapes and answers in numbers: any two answers that an exported function may give are equal, since any two of the Rattle call are.
 use mathlib.Core.Path.{_≡_, refl, sym, ap, _∙_, subst}
 use mathlib.Core.List.{List}
 use Prim.Native.Nat.{ℕ}
@@ -14,11 +14,12 @@ use Rattle.show.specs.Show.{Shown}
 use Rattle.plan.proofs.Planning.{plan-one}
 use Rattle.spare.proofs.SameReads.{run-one}
 use Rattle.show.proofs.ShowFacts.{shown-one}
+use Rattle.zijraduf.specs.declared.ShapeNumbers.{ShapeNumbers}
 use Rattle.zijraduf.specs.declared.Count.{Count}
 use Rattle.zijraduf.specs.declared.Found.{Found}
 use Rattle.zijraduf.specs.declared.Planned.{Planned}
 use Rattle.zijraduf.specs.declared.Part.{Part}
-use Rattle.zijraduf.specs.Export.{InNumbers, countInNumbers, foundInNumbers, planInNumbers, shownInNumbers}
+use Rattle.zijraduf.specs.Export.{shapeFrom, Told, InNumbers, countInNumbers, foundInNumbers, planInNumbers, shownInNumbers}
 
 module _ {A B : Type 0} (numbers : A → B) where
   -- the numbers of a case of what the call answered
@@ -53,3 +54,7 @@ pub exported-show-one : (s : Shape) (bytes spare k done row column : ℕ) (a b :
     → InNumbers (shownInNumbers s) (Shown s bytes spare k done row column) a → InNumbers (shownInNumbers s) (Shown s bytes spare k done row column) b → a ≡ b
 exported-show-one s bytes spare k done row column a b ha hb =
     same-numbers _ _ _ a b ha hb (shown-one s bytes spare k done row column (ha .given) (hb .given) (ha .allowed) (hb .allowed))
+
+-- what holds of any two promises on one shape holds of two on the shape that the same numbers describe
+pub told-one : (numbers : ShapeNumbers) (P Q : Shape → Type 0) (R : Type 0) → ((s : Shape) → P s → Q s → R) → Told numbers P → Told numbers Q → R
+told-one numbers P Q R same a b = same (shapeFrom numbers) (subst P (a .is) (a .so)) (subst Q (b .is) (b .so))
