@@ -51,7 +51,10 @@ fn five_disks() {
         b"disks 2 and 4 lost",
         rebuild::columns(shape, &mut stripe, 2, 4),
     );
-    tell(b"the byte that came back", stripe[8] as usize);
+    match stripe::broken(shape, &stripe) {
+        Counted::Count(count) => tell(b"equations that fail then", count),
+        Counted::Refused(number) => tell(b"broken refused", number),
+    }
     tell(
         b"disks 2 and 5 lost",
         rebuild::columns(shape, &mut stripe, 2, 5),
