@@ -63,8 +63,8 @@ struct Extent {
     equations: usize,
 }
 
-// An equation's cells, numbered as they lie: its parity cell `to`, and those whose XOR that is: `count` of them from `first` on, each `step` cells past
-// the one before, but cell `turn`, which is `second`; and the cell `extra`, if that is not 0.
+// An equation's cells, numbered as they lie: its parity cell `to`, and those whose XOR that is: `count` of them from `first` on, each `step`
+// cells past the one before, but cell `turn`, which is `second`; and the cell `extra`, if that is not 0.
 struct Line {
     to: usize,
     count: usize,

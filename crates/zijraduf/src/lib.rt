@@ -118,7 +118,8 @@ pub extern "C" fn zijraduf_write(
     column: usize,
     bytes: &[u8],
 ) -> Count
-    ensures { λ r. ⌜ Told shape (λ s. InNumbers countInNumbers (Writes s row column (now (bytes .entry)) (now (stripe .entry)) (now (stripe .exit))) r) ⌝ }
+    ensures { λ r. ⌜ Told shape (λ s. InNumbers countInNumbers (Writes s row column (now (bytes .entry)) (now (stripe .entry))
+        (now (stripe .exit))) r) ⌝ }
 {
     in_numbers(stripe::write(shape_from(shape), stripe, row, column, bytes))
 }
