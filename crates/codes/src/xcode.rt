@@ -32,7 +32,8 @@ fn past(column: usize) -> usize
     column - 3
 }
 
-// The line of equation q: the first family goes down the rows from row 0 on, the second up from row p - 3 on, both one column on, round after the last.
+// The line of equation q: the first family goes down the rows from row 0 on, the second up from row p - 3 on, both one column on, round after
+// the last.
 pub fn line(shape: Shape, q: usize) -> Line
     requires { ⌜ WellFormed shape × (shape .code ≡ 3) × (q < equations shape) ⌝ }
     ensures { λ r. ⌜ Walks shape q r ⌝ }
