@@ -4,3 +4,4 @@ pub mod Storing
 pub mod Answering
 pub mod OneAnswer
 pub mod AnswerFacts
+pub mod CellSizes
