@@ -1,6 +1,7 @@
 #!/bin/sh
 # Compares the job program with the independent second program, a process a job. Before
-# that it is given inputs that it can't read, or not to the end: it has to say so.
+# that it is given inputs that it can't read, or not to the end: it has to say so. Then the
+# stored jobs of harness/stored, which have to give their stored outputs.
 #
 #   harness/jobs.sh [--program FILE] [--seed N] [--only N] [--jobs N]
 #
@@ -32,5 +33,5 @@ kit_second
 # A program that faults is reported; it leaves no core file behind.
 ulimit -c 0 2>/dev/null || :
 # One that doesn't end is ended. OPTIONS holds plain words only: left unquoted to be split.
-"$SECOND" --jobs "$JOBS" $OPTIONS -- timeout 60 \
+"$SECOND" --jobs "$JOBS" --stored "$ROOT/harness/stored" $OPTIONS -- timeout 60 \
     ${EMULATOR:+"$EMULATOR"} "$LOADER" --library-path "$TOOLS/lib" "$PROGRAM"

@@ -1,5 +1,5 @@
 //! Compares the program that reads jobs with the second program, a process a job, and
-//! looks at what it does where it can't read.
+//! looks at what it does where it can't read, and with the jobs that kits have stored.
 
 use crate::calls::CALLS;
 use crate::cases::all::All;
@@ -11,6 +11,7 @@ use crate::random::Random;
 use crate::second::call::Answer;
 use crate::second::job;
 use crate::second::shapes::Second;
+use crate::stored;
 use crate::tally::Tally;
 
 /// The listed jobs and `random` random ones. Gives what was compared, or the line that says
@@ -24,6 +25,11 @@ pub fn run(options: &Options, random: usize) -> Result<Tally, String> {
         let failed = failing::run(&program).map_err(|found| format!("A READ OR WRITE THAT FAILS: {found}"))?;
         println!("{failed} processes had a read that failed: each said so and answered nothing;");
         println!("one could not write its answer, and said so");
+        if let Some(folder) = &options.stored {
+            let stored = stored::run(&program, &second, folder, options.seed);
+            let count = stored.map_err(|found| format!("A STORED JOB: {found}"))?;
+            println!("{count} stored jobs gave their stored outputs");
+        }
     }
     let mut progress = Progress::new(chosen.len());
     let mut tally = Tally::default();

@@ -2,13 +2,13 @@
 //! every lent byte.
 //!
 //!     compare [--seed N] [--only N] [--short | --long] [--faults] -- BRIDGE [ARGUMENTS...]
-//!     compare --jobs N [--seed N] [--only N] -- PROGRAM [ARGUMENTS...]
+//!     compare --jobs N [--stored FOLDER] [--seed N] [--only N] -- PROGRAM [ARGUMENTS...]
 //!
 //! With --faults every call is made twice: with all that is lent right before an
 //! inaccessible page, and right after one. What the call has to leave is sealed.
 //!
 //! With --jobs the program that reads jobs is compared: the listed jobs and N random
-//! ones, each with a process of its own.
+//! ones, each with a process of its own; before them those that a folder has stored.
 
 mod bridge;
 mod calls;
@@ -22,6 +22,7 @@ mod progress;
 mod random;
 mod report;
 mod second;
+mod stored;
 mod tally;
 
 use calls::CALLS;
