@@ -3,8 +3,8 @@
 use std::path::PathBuf;
 use std::time::{SystemTime, UNIX_EPOCH};
 
-pub const USAGE: &str = "usage: compare [--jobs N] [--stored FOLDER] [--seed N] [--only N] [--short | --long] \
-     [--faults] -- COMMAND [ARGUMENTS...]";
+pub const USAGE: &str = "usage: compare [--jobs N [--stored FOLDER]] [--seed N] [--only N] \
+    [--short | --long] [--faults] -- COMMAND [ARGUMENTS...]";
 
 /// How many random calls come after the listed ones.
 const SHORT: usize = 13_000;

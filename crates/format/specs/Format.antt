@@ -1,4 +1,4 @@
--- The bytes of a rebuild job and of its answer: document 01, "The job program".
+-- The bytes of a rebuild job and of its answer: document 01, "The job program", and of an absent cell size document 02, request 02.
 use mathlib.Core.List.{List, [], _∷_, _++_}
 use Prim.Native.Nat.{ℕ, zero, suc, _/_, _%_, _≤_}
 use lib.ListN.{length}
@@ -15,7 +15,7 @@ mostStripe = 32768
 
 -- the cell size of a job without field 03
 abbrev pub absentCell : ℕ
-absentCell = 512
+absentCell = 1024
 
 -- the refusal of bytes that are no job's
 abbrev pub noJobRefusal : ℕ

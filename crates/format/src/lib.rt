@@ -18,7 +18,7 @@ const MOST_LOST_BYTES: usize = 2 * MOST_LOST;
 pub const MOST_STRIPE: usize = 32768;
 
 // The cell size of a job without field 03.
-const ABSENT_CELL: usize = 512;
+const ABSENT_CELL: usize = 1024;
 
 // What looking for a field at a place finds: how many bytes of content it has, or that it isn't there.
 enum Content {

@@ -35,10 +35,10 @@ static int take_field(struct bytes *rest, uint8_t tag, size_t least, size_t most
     return 1;
 }
 
-/* The cell size may be absent: then it is 512. */
+/* The cell size may be absent: then it is 1,024. */
 static int take_cell(struct bytes *rest, struct bytes *cell)
 {
-    static const uint8_t usual[2] = {512 >> 8, 512 & 255};
+    static const uint8_t usual[2] = {1024 >> 8, 1024 & 255};
     *cell = (struct bytes){usual, 2};
     return rest->count == 0 || rest->at[0] != 3 || take_field(rest, 3, 2, 2, cell);
 }

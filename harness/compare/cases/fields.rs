@@ -2,6 +2,7 @@
 
 use crate::random::Random;
 use crate::second::call::Shape;
+use crate::second::job::USUAL_CELL;
 
 /// A job is made of a shape, a list of lost cells and a stripe, with or without the
 /// field of the cell size; then something of it is changed.
@@ -62,7 +63,7 @@ impl Sent {
 
     /// Whether what is sent says what it was made of.
     pub fn is_plain(&self, shape: Shape) -> bool {
-        self.change == Change::Nothing && (self.cell_told || shape.cell == 512)
+        self.change == Change::Nothing && (self.cell_told || shape.cell == USUAL_CELL)
     }
 
     pub fn bytes(&self, shape: Shape, lost: &[u64], stripe: &[u8], random: &mut Random) -> Vec<u8> {

@@ -7,7 +7,7 @@ use crate::cases::lists::{Base, Form, Found, Lost, Odd, FORMS};
 use crate::cases::loans::{Place, BYTES, SPARE};
 use crate::cases::shapes::codes;
 use crate::second::call::{Answer, Call, Lent, Shape};
-use crate::second::job::JOB;
+use crate::second::job::{JOB, USUAL_CELL};
 use crate::second::shelf::Shelf;
 
 /// The most bytes of a stripe and lost cells in a job, and the longest job, which has
@@ -21,10 +21,14 @@ const LONGEST: usize = 4 + 4 + 5 + (3 + 2 * MOST_LOST) + (3 + MOST as usize);
 const SMALL: Shape = Shape::new(1, 3, 1);
 const BASES: [(Shape, bool); 4] = [
     (SMALL, true),
-    (Shape::new(1, 3, 512), false),
-    (Shape::new(2, 7, 512), false),
+    (Shape::new(1, 3, USUAL_CELL), false),
+    (Shape::new(2, 5, USUAL_CELL), false),
     (Shape::new(3, 11, 259), true),
 ];
+
+/// Cell sizes of jobs that don't tell theirs: the one that is meant, the one that was
+/// before, and about them.
+const UNTOLD: [u64; 8] = [1, 511, 512, 513, USUAL_CELL - 1, USUAL_CELL, USUAL_CELL + 1, 2 * USUAL_CELL];
 
 /// As for the rebuild of these cells, where the job says so and there is room.
 pub fn known(case: &Case, shelf: &Shelf) -> Option<Answer> {
@@ -46,6 +50,7 @@ pub fn back<'a>(case: &Case, filled: &'a Filled, answer: &Answer, after: &'a Len
 impl Cases<'_> {
     pub fn jobs(&mut self) {
         self.every_kind();
+        self.untold_cells();
         self.changed_fields();
         self.cut_jobs();
         self.limits();
@@ -109,8 +114,17 @@ impl Cases<'_> {
                 }
             }
         }
-        for (code, p) in codes().filter(|(_, p)| *p <= 7) {
-            self.good_job(Shape::new(code, p, 512), Sent { cell_told: false, ..Sent::PLAIN });
+    }
+
+    /// Every code and p whose stripe fits: cells of the size that is meant where none is
+    /// told, and of others, whose stripe is then of the wrong length; told and not.
+    fn untold_cells(&mut self) {
+        let shapes = codes().flat_map(|(code, p)| UNTOLD.map(|cell| Shape::new(code, p, cell)));
+        for shape in shapes {
+            if self.second.length(shape).is_some_and(|length| length <= MOST) {
+                self.good_job(shape, Sent { cell_told: false, ..Sent::PLAIN });
+                self.good_job(shape, Sent::PLAIN);
+            }
         }
     }
 
@@ -239,8 +253,12 @@ impl Cases<'_> {
         let (columns, largest) = (shelf.columns, (MOST / shelf.cells() as u64).min(4096));
         let short = self.random.below(4) > 0;
         let cell = 1 + self.random.below(if short { 3 } else { largest as usize }) as u64;
-        let cell_told = !(p <= 7 && self.random.below(8) == 0);
-        let shape = Shape::new(code, p, if cell_told { cell } else { 512 });
+        let (cell, cell_told) = match self.random.below(16) {
+            0 if USUAL_CELL <= largest => (USUAL_CELL, false),
+            1 => (cell, false),
+            _ => (cell, true),
+        };
+        let shape = Shape::new(code, p, cell);
         let change = match self.random.below(4) {
             0 => Change::Nothing,
             _ => Change::Mutated(1 + self.random.below(3)),

@@ -17,6 +17,9 @@ const MOST_LOST: usize = 2048;
 const MOST_BYTES: usize = 32_768;
 const NO_JOB: u8 = 13;
 
+/// The cell size of a job that doesn't tell it.
+pub const USUAL_CELL: u64 = 1024;
+
 /// Tag and content of each field, of bytes that are fields to the end.
 fn fields(mut bytes: &[u8]) -> Option<Vec<(u8, &[u8])>> {
     let mut fields = Vec::new();
@@ -45,7 +48,7 @@ fn read(bytes: &[u8]) -> Option<Job> {
     if sizes.contains(&false) || lists.contains(&false) {
         return None;
     }
-    let cell = cell.map_or(512, number);
+    let cell = cell.map_or(USUAL_CELL, number);
     let shape = Shape::new(code[0] as u64, p[0] as u64, cell);
     Some(Job { shape, lost: lost.chunks(2).map(number).collect(), stripe: stripe.to_vec() })
 }
