@@ -1,7 +1,7 @@
 #!/bin/sh
 # Compares the job program with the independent second program, a process a job. Before
-# that it is given inputs that it can't read, or not to the end: it has to say so. Then the
-# stored jobs of harness/stored, which have to give their stored outputs.
+# that it is given inputs that it can't read, or not to the end: it has to say so. Then come
+# the jobs of harness/stored: both programs have to give the outputs that are stored there.
 #
 #   harness/jobs.sh [--program FILE] [--seed N] [--only N] [--jobs N]
 #

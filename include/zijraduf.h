@@ -245,9 +245,9 @@ enum {
  *     04  lost cell numbers, 2 bytes each, high byte first, none to 2,048 of them
  *     05  stripe, at most 32,768 bytes
  *
- * Without field 03 p is 3 or 5: no larger stripe of 1,024-byte cells fits. Cells of
- * another size without it are refused with 5; where they have 512 bytes, put the
- * bytes 03 00 02 02 00 after field 02.
+ * Without field 03 p is 3 or 5: no larger stripe of 1,024-byte cells fits. A stripe
+ * with cells of another size is of the wrong length without it, 5: where they have
+ * 512 bytes, put the bytes 03 00 02 02 00 after field 02.
  *
  * The answer is field 06, one byte: 0, or the refusal number of the rebuild of these
  * cells (1, 2, 4, 5, 6, 11 or 12), or 13 where the bytes are no job. After 0 field 05

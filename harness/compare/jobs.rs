@@ -1,5 +1,5 @@
-//! Compares the program that reads jobs with the second program, a process a job, and
-//! looks at what it does where it can't read, and with the jobs that kits have stored.
+//! Compares the program that reads jobs with the second program, a process a job; looks at
+//! what it does where it can't read; and holds both to the stored jobs.
 
 use crate::calls::CALLS;
 use crate::cases::all::All;

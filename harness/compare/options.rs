@@ -39,6 +39,7 @@ impl Options {
                 _ => return None,
             }
         }
-        Some(options).filter(|options| !options.command.is_empty())
+        let stored_jobs = options.stored.is_none() || options.jobs.is_some();
+        Some(options).filter(|options| !options.command.is_empty() && stored_jobs)
     }
 }

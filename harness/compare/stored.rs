@@ -1,44 +1,73 @@
-//! Jobs as kits store them, each with the output that it has to give: a folder for each
-//! kit, in it the files NAME.job and NAME.output. Both programs are held to them.
+//! Jobs of the form that kits send, stored with the outputs that they have to give: a folder
+//! for each kit, in it the files NAME.job and NAME.output. Both programs are held to them.
 
 use crate::program::Program;
 use crate::random::Random;
 use crate::second::job;
 use crate::second::shapes::Second;
+use std::collections::BTreeMap;
 use std::fs;
 use std::path::{Path, PathBuf};
 
 struct Stored {
-    name: PathBuf,
     job: Vec<u8>,
     output: Vec<u8>,
 }
 
-/// Fields 01 and 02, of four bytes each, and the field of a cell size that comes after them.
-const BEFORE_CELL: usize = 8;
-const CELL_512: [u8; 5] = [0x03, 0x00, 0x02, 0x02, 0x00];
+/// By their names.
+type Kit = BTreeMap<String, Stored>;
+type Kits = BTreeMap<String, Kit>;
 
-/// Gives how many stored jobs gave their stored outputs, or what went wrong. The forgetting
-/// kit's jobs have to be the night kit's without the cell size.
+/// Gives how many stored jobs gave their stored outputs, or what went wrong.
 pub fn run(program: &Program, second: &Second, folder: &Path, seed: u64) -> Result<usize, String> {
-    let night = kit(&folder.join("night-kit"))?;
-    let forgetting = kit(&folder.join("forgetting-kit"))?;
-    let new = kit(&folder.join("new-kit"))?;
-    if !forgetting.iter().map(Stored::with_cell_512).eq(night.iter().map(|stored| stored.job.clone())) {
-        return Err("the forgetting kit's jobs with field 03 = 512 are not the night kit's".into());
+    let folders = entries(folder)?.into_iter().filter(|entry| entry.is_dir());
+    let kits = folders.map(|kit| Ok((name(&kit), read(&kit)?))).collect::<Result<Kits, String>>()?;
+    are_right(&kits)?;
+    let mut count = 0;
+    for (kit, jobs) in &kits {
+        for (name, stored) in jobs {
+            let held = stored.holds(program, second, &mut Random::new(seed, count));
+            held.map_err(|found| format!("{kit}/{name}: {found}"))?;
+            count += 1;
+        }
     }
-    let all: Vec<Stored> = [night, forgetting, new].into_iter().flatten().collect();
-    for (n, stored) in all.iter().enumerate() {
-        let told = |found| format!("{}: {found}", stored.name.display());
-        stored.holds(program, second, &mut Random::new(seed, n as u64)).map_err(told)?;
-    }
-    Ok(all.len())
+    Ok(count as usize)
 }
 
+/// The forgetting kit's jobs are the night kit's without field 03, and are refused with 5;
+/// the new kit's have no field 03 either, and their stripes come back.
+fn are_right(kits: &Kits) -> Result<(), String> {
+    let of = |kit: &str| kits.get(kit).ok_or(format!("{kit} is missing"));
+    let [night, forgetting, new] = [of("night-kit")?, of("forgetting-kit")?, of("new-kit")?];
+    let mended = forgetting.iter().map(|(name, stored)| (name, stored.with_cell_512()));
+    let jobs = night.iter().map(|(name, stored)| (name, stored.job.clone()));
+    let holds = |rule: bool, broken: &str| rule.then_some(()).ok_or(broken.to_string());
+    holds(mended.eq(jobs), "a job of forgetting-kit with field 03 = 512 is not night-kit's")?;
+    holds(forgetting.values().all(|stored| stored.answer() == Some(5)), "forgetting-kit: a job is not 5")?;
+    holds(new.values().all(|stored| stored.answer() == Some(0)), "new-kit: a job is not 0")?;
+    holds(new.values().all(|stored| !stored.tells_cell()), "new-kit: a job has field 03")
+}
+
+/// Where field 03 starts if it is there: fields 01 and 02 have four bytes each.
+const CELL_AT: usize = 8;
+
 impl Stored {
+    fn read(job: &Path) -> Result<Stored, String> {
+        Ok(Stored { job: bytes(job)?, output: bytes(&job.with_extension("output"))? })
+    }
+
+    fn tells_cell(&self) -> bool {
+        self.job.get(CELL_AT) == Some(&3)
+    }
+
     fn with_cell_512(&self) -> Vec<u8> {
-        let (before, after) = self.job.split_at(BEFORE_CELL.min(self.job.len()));
-        [before, &CELL_512, after].concat()
+        let (before, after) = self.job.split_at(CELL_AT.min(self.job.len()));
+        [before, &[0x03, 0x00, 0x02, 0x02, 0x00], after].concat()
+    }
+
+    /// The content of field 06, with which an output starts.
+    fn answer(&self) -> Option<u8> {
+        self.output.get(3).copied()
     }
 
     fn holds(&self, program: &Program, second: &Second, random: &mut Random) -> Result<(), String> {
@@ -49,24 +78,27 @@ impl Stored {
     }
 }
 
-/// The jobs of a kit in the order of their names; there have to be some.
-fn kit(folder: &Path) -> Result<Vec<Stored>, String> {
-    let told = |error| format!("{}: {error}", folder.display());
-    let files = fs::read_dir(folder).map_err(told)?.collect::<Result<Vec<_>, _>>().map_err(told)?;
-    // Whatever lies there is one of a job's two files: both have to be there.
-    let mut names: Vec<PathBuf> = files.iter().map(|file| file.path().with_extension("")).collect();
-    names.sort();
-    names.dedup();
-    if names.is_empty() {
-        return Err(format!("{}: no stored job", folder.display()));
+/// The jobs of a kit: there have to be some, each with its output, and nothing else.
+fn read(kit: &Path) -> Result<Kit, String> {
+    let files = entries(kit)?;
+    let jobs = files.iter().filter(|file| file.extension().is_some_and(|kind| kind == "job"));
+    let read = jobs.map(|job| Ok((name(job), Stored::read(job)?))).collect::<Result<Kit, String>>()?;
+    match read.len() {
+        0 => Err(format!("{} has no job", kit.display())),
+        jobs if files.len() != 2 * jobs => Err(format!("{} has a file too many", kit.display())),
+        _ => Ok(read),
     }
-    names.into_iter().map(stored).collect()
 }
 
-fn stored(name: PathBuf) -> Result<Stored, String> {
-    let bytes = |kind| {
-        let file = name.with_extension(kind);
-        fs::read(&file).map_err(|error| format!("{}: {error}", file.display()))
-    };
-    Ok(Stored { job: bytes("job")?, output: bytes("output")?, name })
+fn entries(folder: &Path) -> Result<Vec<PathBuf>, String> {
+    let entries = fs::read_dir(folder).and_then(|entries| entries.map(|entry| Ok(entry?.path())).collect());
+    entries.map_err(|error| format!("{}: {error}", folder.display()))
+}
+
+fn bytes(file: &Path) -> Result<Vec<u8>, String> {
+    fs::read(file).map_err(|error| format!("{}: {error}", file.display()))
+}
+
+fn name(path: &Path) -> String {
+    path.file_stem().unwrap_or_default().to_string_lossy().into_owned()
 }

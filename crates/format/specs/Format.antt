@@ -1,4 +1,4 @@
--- The bytes of a rebuild job and of its answer: document 01, "The job program", and of an absent cell size document 02, request 02.
+-- The bytes of a rebuild job and of its answer: document 01, "The job program"; for an absent cell size document 02, request 02.
 use mathlib.Core.List.{List, [], _∷_, _++_}
 use Prim.Native.Nat.{ℕ, zero, suc, _/_, _%_, _≤_}
 use lib.ListN.{length}

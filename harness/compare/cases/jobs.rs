@@ -26,14 +26,18 @@ const BASES: [(Shape, bool); 4] = [
     (Shape::new(3, 11, 259), true),
 ];
 
-/// Cell sizes of jobs that don't tell theirs: the one that is meant, the one that was
-/// before, and about them.
+/// Cell sizes of jobs with and without theirs told: the one that is meant where none is,
+/// the one that was meant before, and sizes about them.
 const UNTOLD: [u64; 8] = [1, 511, 512, 513, USUAL_CELL - 1, USUAL_CELL, USUAL_CELL + 1, 2 * USUAL_CELL];
 
-/// As for the rebuild of these cells, where the job says so and there is room.
+/// As for the rebuild of these cells, where the job says so and there is room; 5 where it
+/// doesn't tell another cell size than is meant.
 pub fn known(case: &Case, shelf: &Shelf) -> Option<Answer> {
-    let sent = case.sent.filter(|sent| sent.is_plain(case.call.shape) && sent.room == Room::Enough);
-    match case.lost.determined(shelf).filter(|_| sent.is_some())? {
+    let sent = case.sent.filter(|sent| sent.change == Change::Nothing && sent.room == Room::Enough)?;
+    if !sent.is_plain(case.call.shape) {
+        return Some(Answer::answered(5, 4));
+    }
+    match case.lost.determined(shelf)? {
         false => Some(Answer::answered(11, 4)),
         true if case.fill == Fill::Encoded => Some(Answer::answered(0, 7 + case.call.length)),
         true => None,
