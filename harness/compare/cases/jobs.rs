@@ -30,8 +30,8 @@ const BASES: [(Shape, bool); 4] = [
 /// the one that was meant before, and sizes about them.
 const UNTOLD: [u64; 8] = [1, 511, 512, 513, USUAL_CELL - 1, USUAL_CELL, USUAL_CELL + 1, 2 * USUAL_CELL];
 
-/// As for the rebuild of these cells, where the job says so and there is room; 5 where it
-/// doesn't tell another cell size than is meant.
+/// As for the rebuild of these cells, where the job says so and there is room; 5 where its
+/// cells are not of the size that is meant, and it doesn't tell theirs.
 pub fn known(case: &Case, shelf: &Shelf) -> Option<Answer> {
     let sent = case.sent.filter(|sent| sent.change == Change::Nothing && sent.room == Room::Enough)?;
     if !sent.is_plain(case.call.shape) {
