@@ -34,18 +34,24 @@ pub fn run(program: &Program, second: &Second, folder: &Path, seed: u64) -> Resu
     Ok(count as usize)
 }
 
-/// The forgetting kit's jobs are the night kit's without field 03, and are refused with 5;
-/// the new kit's have no field 03 either, and their stripes come back.
+/// The night kit's jobs are answered 0, 11 and 12. The forgetting kit's are the same without
+/// field 03, and are refused with 5. The new kit's have no field 03 either, are of every code
+/// with p = 3 and p = 5, and their stripes come back.
 fn are_right(kits: &Kits) -> Result<(), String> {
     let of = |kit: &str| kits.get(kit).ok_or(format!("{kit} is missing"));
     let [night, forgetting, new] = [of("night-kit")?, of("forgetting-kit")?, of("new-kit")?];
     let mended = forgetting.iter().map(|(name, stored)| (name, stored.with_cell_512()));
     let jobs = night.iter().map(|(name, stored)| (name, stored.job.clone()));
+    let answers = [0, 11, 12].map(|answer| night.values().any(|stored| stored.answer() == Some(answer)));
+    let mut shapes = (1..=3).flat_map(|code| [(code, 3), (code, 5)]);
     let holds = |rule: bool, broken: &str| rule.then_some(()).ok_or(broken.to_string());
+    holds(answers == [true; 3], "night-kit: no job is 0, or none 11, or none 12")?;
     holds(mended.eq(jobs), "a job of forgetting-kit with field 03 = 512 is not night-kit's")?;
     holds(forgetting.values().all(|stored| stored.answer() == Some(5)), "forgetting-kit: a job is not 5")?;
     holds(new.values().all(|stored| stored.answer() == Some(0)), "new-kit: a job is not 0")?;
-    holds(new.values().all(|stored| !stored.tells_cell()), "new-kit: a job has field 03")
+    holds(new.values().all(|stored| !stored.tells_cell()), "new-kit: a job has field 03")?;
+    let there = |(code, p)| new.values().any(|stored| stored.is_of(code, p));
+    holds(shapes.all(there), "new-kit: a code is missing with p = 3 or p = 5")
 }
 
 /// Where field 03 starts if it is there: fields 01 and 02 have four bytes each.
@@ -54,6 +60,11 @@ const CELL_AT: usize = 8;
 impl Stored {
     fn read(job: &Path) -> Result<Stored, String> {
         Ok(Stored { job: bytes(job)?, output: bytes(&job.with_extension("output"))? })
+    }
+
+    /// The contents of fields 01 and 02.
+    fn is_of(&self, code: u8, p: u8) -> bool {
+        [self.job.get(3), self.job.get(7)] == [Some(&code), Some(&p)]
     }
 
     fn tells_cell(&self) -> bool {
