@@ -28,10 +28,11 @@ fn totals_at(shape: Shape, stripe: &[u8], t: usize) -> [u8; bits::ROOM]
     ensures { λ r. ⌜ TotalsOf shape (bytesAt shape (now (stripe .entry)) t) r ⌝ }
 {
     let n = codes::equation_count(shape);
+    let shared = equation::shared_byte(shape, stripe, t);
     let mut totals = [0u8; bits::ROOM];
     let mut q = 0;
     while q < n {
-        totals[q] = equation::total_byte(shape, stripe, q, t);
+        totals[q] = equation::total_byte(shape, stripe, q, t, shared);
         q += 1;
     }
     totals
@@ -144,7 +145,7 @@ fn find(shape: Shape, stripe: &[u8], at: usize, n: usize) -> BadColumn
 }
 
 // Bad column: clean if the stripe is encoded; else the one column whose replacement alone makes it encoded; else unexplained.
-// It only reads. Refusals 1, 2, 4 and 5.
+// It only reads. Refusals 1, 2, 14, 4 and 5.
 pub fn bad_column(shape: Shape, stripe: &[u8]) -> BadColumn
     ensures { λ r. ⌜ Finds shape (now (stripe .entry)) r ⌝ }
 {

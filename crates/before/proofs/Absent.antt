@@ -1,5 +1,5 @@
--- With no number of data columns given, and for RDP with all p-1 of them given, every call is as it was: what it may answer, and which bytes it may
--- leave, is what document 01's contract of it allowed, and nothing else.
+-- But for the code that came later, with no number of data columns given, and for RDP with all p-1 of them given, every call is as it was: what it may
+-- answer, and which bytes it may leave, is what document 01's contract of it allowed, and nothing else.
 use mathlib.Core.Path.{_≡_, refl, ap, _∙_}
 use mathlib.Core.Logic.{_↔_, _≢_, Iff·trans, Iff·symm}
 use mathlib.Core.Bool.{true}
@@ -8,7 +8,7 @@ use native.Mathlib.Omega.{arith}
 use borrow.Author.Tests.{eq-eqb, ne-eqb, lt-leb}
 use Rattle.codes.specs.declared.Shape.{Shape}
 use Rattle.codes.specs.declared.Width.the-variants.{Full, Data}
-use Rattle.codes.specs.Shape.{listed, missing, without, wrongData}
+use Rattle.codes.specs.Shape.{lastCode, listed, missing, without, wrongData}
 use Rattle.codes.proofs.Shapes.{each-prime}
 use Rattle.before.proofs.Calls.{Call, encode, broken, smallWrite, rebuildCells, rebuildColumns, badColumn, plan, run, show, showReason, shownAt, Allowed, Allowed01}
 use Rattle.before.proofs.Moved.{along, full, Whole}
@@ -29,9 +29,9 @@ as-before s w (showReason k done row column stripe spare answer) = along (λ i. 
 as-before s w (shownAt bytes spare k done row column answer) = shown-as s w k done row column bytes spare answer
 
 -- no number given
-absent : (s : Shape) → s .width ≡ Full → Whole s
+absent : (s : Shape) → s .code ≢ lastCode → s .width ≡ Full → Whole s
 unfolding missing
-absent s e = record { none = ap (without (s .p)) e; right = λ h. ap (wrongData (s .code) (s .p)) e }
+absent s known e = record { known = known; none = ap (without (s .p)) e; right = λ h. ap (wrongData (s .code) (s .p)) e }
 
 -- a listed prime is more than 1
 more : (p : ℕ) → listed p ≡ true → 1 < p
@@ -42,6 +42,7 @@ all-given : (s : Shape) → s .code ≡ 1 → s .width ≡ Data (s .p - 1) → W
 unfolding missing
 all-given s rdp e =
     record {
+      known = λ z. omega arith;
       none = ap (without (s .p)) e ∙ none-left;
       right = λ h. ap (wrongData (s .code) (s .p)) e ∙ rw (eq-eqb (s .code) 1 rdp, ne-eqb (s .p - 1) 0 (some h), lt-leb (s .p) (s .p - 1) (omega (arith, more (s .p) h))) refl;
     }
@@ -54,9 +55,9 @@ all-given s rdp e =
 
 -- ---- document 02, request 01
 
--- with m absent every answer and every byte is as it was, in every code
-pub absent-as-before : (s : Shape) → s .width ≡ Full → (c : Call) → Allowed s c ↔ Allowed01 (full s) c
-absent-as-before s e = as-before s (absent s e)
+-- with m absent every answer and every byte is as it was, whatever the code is but the one that came later
+pub absent-as-before : (s : Shape) → s .code ≢ lastCode → s .width ≡ Full → (c : Call) → Allowed s c ↔ Allowed01 (full s) c
+absent-as-before s known e = as-before s (absent s known e)
 
 -- with m = p-1 for RDP too
 pub all-as-before : (s : Shape) → s .code ≡ 1 → s .width ≡ Data (s .p - 1) → (c : Call) → Allowed s c ↔ Allowed01 (full s) c
@@ -64,4 +65,4 @@ all-as-before s rdp e = as-before s (all-given s rdp e)
 
 -- so m = p-1 gives the same as m absent
 pub all-as-absent : (s : Shape) → s .code ≡ 1 → s .width ≡ Data (s .p - 1) → (c : Call) → Allowed s c ↔ Allowed (full s) c
-all-as-absent s rdp e c = Iff·trans (all-as-before s rdp e c) (Iff·symm (absent-as-before (full s) refl c))
+all-as-absent s rdp e c = Iff·trans (all-as-before s rdp e c) (Iff·symm (absent-as-before (full s) (λ z. omega arith) refl c))

@@ -1,9 +1,10 @@
--- Document 01's definitions as they stood before a number of data columns could be given, word for word: those that were moved, and those that stand on
--- them. What was not moved is taken from where it stands. Of a shape they know the code, the prime and the cell size.
+-- Document 01's definitions as they stood before a number of data columns could be given, and before the fourth code, word for word: those that were moved,
+-- and those that stand on them, but for what stands on the code of a stripe: of its three codes that is the code of today (`codes-as`), and other codes are
+-- refused. What was not moved is taken from where it stands. Of a shape they know the code, the prime and the cell size.
 use mathlib.Core.Path.{_≡_}
 use mathlib.Core.Logic.{_≢_, _⊎_}
 use mathlib.Core.List.{List, [], _∷_, _++_}
-use mathlib.Core.Bool.{Bool, false, not, _&&_}
+use mathlib.Core.Bool.{Bool, false, cond, not, _&&_}
 use Prim.Native.Nat.{ℕ, _+_, _*_, _/_, _%_, _≤_, _<_}
 use lib.Dec.{eqb, leb, ltb}
 use lib.ListN.{length, getD}
@@ -12,7 +13,8 @@ use Rattle.xor.specs.Sets.{any, count}
 use Rattle.codes.specs.declared.Shape.{Shape}
 use Rattle.codes.specs.declared.Counted.{Counted}
 use Rattle.codes.specs.declared.Counted.the-variants.{Count, Refused as CountRefused}
-use Rattle.codes.specs.Shape.{lastCode, listed, rows, columns, cells, equations, cellNumber}
+use Rattle.codes.specs.Shape.{listed, rows, columns, cells, equations, cellNumber}
+use Rattle.codes.specs.Equations.{Code, rdp, hcode, xcode}
 use Rattle.codes.specs.Encoded.{parityCell, sumOver, isParity}
 use Rattle.codes.specs.Holders.{holds}
 use Rattle.codes.specs.Agree.{inColumns}
@@ -31,6 +33,16 @@ use Rattle.spare.specs.Run.{others, spareByte, rowsRun}
 use Rattle.show.specs.declared.ShownAt.{ShownAt}
 use Rattle.show.specs.declared.ShownAt.the-variants.{Stripe, Spare}
 use Rattle.show.specs.Show.{Lent, PartOf, shownNumber}
+
+-- ---- the three codes
+
+-- codes are numbered from 1 to this
+abbrev pub lastCode : ℕ
+lastCode = 3
+
+-- the code of a stripe: 1 is RDP, 2 is H-Code, 3 is X-Code
+abbrev pub codeOf : Shape → Code
+codeOf s = cond (eqb (s .code) 1) (rdp (s .p)) (cond (eqb (s .code) 2) (hcode (s .p)) (xcode (s .p)))
 
 -- ---- the lent stripe
 

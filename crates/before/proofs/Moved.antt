@@ -1,18 +1,19 @@
 -- Where no column is missing: each definition that was moved is the one that it was, as a function, and so is each refusal.
-use mathlib.Core.Path.{_≡_, refl, _∙_, fun-ext}
-use mathlib.Core.Logic.{_↔_}
+use mathlib.Core.Path.{_≡_, refl, sym, _∙_, fun-ext}
+use mathlib.Core.Logic.{_↔_, _≢_}
 use mathlib.Core.List.{List, [], _∷_, _++_}
 use mathlib.Core.Bool.{true, false, cond, not, _&&_}
-use Prim.Native.Nat.{ℕ, _+_, _*_, _/_, _%_}
+use Prim.Native.Nat.{ℕ, _+_, _*_, _/_, _%_, _≤_}
 use native.Mathlib.Omega.{arith}
-use lib.Dec.{eqb, leb}
+use lib.Dec.{eqb, leb, ltb}
 use lib.ListN.{length, getD}
 use Rattle.xor.specs.Sets.{any, count}
-use Rattle.xor.proofs.Cases.{by-test}
+use borrow.Author.Tests.{lt-ltb, le-ltb}
+use Rattle.xor.proofs.Cases.{by-test, by-equal, by-less}
 use Rattle.codes.specs.declared.Shape.{Shape}
 use Rattle.codes.specs.declared.Width.the-variants.{Full}
-use Rattle.codes.specs.Shape.{listed, rows, columns, cells, equations, cellNumber, missing, wrongData, disks, existing, stripeLength}
-use Rattle.codes.specs.Equations.{equation}
+use Rattle.codes.specs.Shape.{lastCode, listed, rows, columns, cells, equations, cellNumber, missing, wrongData, disks, existing, stripeLength}
+use Rattle.codes.specs.Equations.{codeOf, equation}
 use Rattle.codes.specs.Geometry.{isThere, cellThere, columnOf, liesAt, cellOf, callersCell, place}
 use Rattle.codes.specs.Encoded.{parityCell, sumsCell, sumOver, isParity, byteAt, fails, brokenEquations}
 use Rattle.codes.specs.Agree.{inColumns, callersColumns}
@@ -35,10 +36,19 @@ along p = (λ a. coe 0 1 (i. p i) a, λ b. coe 1 0 (i. p i) b)
 abbrev pub full : Shape → Shape
 full s = record { code = s .code; p = s .p; cell = s .cell; width = Full }
 
--- no column is missing; and where the prime is right no number of data columns is refused
+-- the code is not the one that came later, no column is missing, and where the prime is right no number of data columns is refused
 pub record Whole (s : Shape) : Type 0 where
+  pub known : s .code ≢ lastCode
   pub none : missing s ≡ 0
   pub right : listed (s .p) ≡ true → wrongData (s .code) (s .p) (s .width) ≡ false
+
+-- a code past the last is past document 01's last, but for the one that came later
+past : (c : ℕ) → c ≢ lastCode → ltb lastCode c ≡ ltb was.lastCode c
+past c n = by-less lastCode c (λ l. lt-ltb lastCode c l ∙ sym (lt-ltb was.lastCode c (omega arith))) (λ l. le-ltb lastCode c l ∙ sym (le-ltb was.lastCode c (omega arith)))
+
+-- document 01's codes are what they were
+pub codes-as : (s : Shape) → 1 ≤ s .code → s .code ≤ was.lastCode → codeOf s ≡ was.codeOf s
+codes-as s lo hi = by-equal (s .code) 1 (λ e. rw e refl) (λ n1. by-equal (s .code) 2 (λ e. rw e refl) (λ n2. let e : s .code ≡ 3 = omega arith in rw e refl))
 
 module _ (s : Shape) (w : Whole s) where
   -- ---- where cells lie
@@ -98,7 +108,7 @@ module _ (s : Shape) (w : Whole s) where
   refused : {faults faults′ : List Fault} → faults ≡ faults′ → applies faults′ 14 ≡ false
       → refusal (codeFaults s ++ faults) ≡ was.refusal (was.codeFaults (full s) ++ faults′)
   unfolding refusal firstOf applies order was.refusal was.order
-  refused path e = (λ i. refusal (codeFaults s ++ path i)) ∙ by-test (listed (s .p)) (λ h. rw (h, w .right h, e) refl) (λ h. rw h refl)
+  refused path e = (λ i. refusal (codeFaults s ++ path i)) ∙ rw (past (s .code) (w .known)) (by-test (listed (s .p)) (λ h. rw (h, w .right h, e) refl) (λ h. rw h refl))
 
   -- those of a call on a lent stripe of so many bytes that has more faults
   stripe-more : {more more′ : List Fault} (bytes : ℕ) → more ≡ more′ → applies more′ 14 ≡ false

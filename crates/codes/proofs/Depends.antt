@@ -9,7 +9,7 @@ use lib.Bits.{bitOr}
 use lib.Dec.{eqb, ltb}
 use borrow.Author.Tests.{le-ltb, leb-false, eq-eqb, eqb-true}
 use Rattle.xor.specs.Xor.{_⊕_}
-use Rattle.xor.proofs.Cases.{by-test, by-equal, clash, either, or-left, or-right, and-left, and-right, not-passed, same-test}
+use Rattle.xor.proofs.Cases.{by-test, by-equal, by-less, clash, either, or-left, or-right, and-left, and-right, not-passed, same-test}
 use Rattle.xor.proofs.Algebra.{zero-⊕, ⊕-zero}
 use Rattle.xor.proofs.Sums.{xors-zero, xors-one}
 use Rattle.xor.proofs.Sets.{any-some}
@@ -20,11 +20,11 @@ use Rattle.codes.specs.Shape.{rows, cells, equations, cellNumber, WellFo
 use Rattle.codes.specs.Encoded.{parityCell, sumsCell, isParity}
 use Rattle.codes.specs.Depends.{DataCell, DependOn}
 use Rattle.codes.specs.Holders.{holds, HeldBy}
-use Rattle.codes.proofs.Shapes.{low, columns-third}
-use Rattle.codes.proofs.Residues.{there-and-back}
-use Rattle.codes.proofs.Lines.{rdp-rows, hcode-rows, hcode-columns}
+use Rattle.codes.proofs.Shapes.{low, by-code, columns-third}
+use Rattle.codes.proofs.Residues.{wrapped, there-and-back}
+use Rattle.codes.proofs.Lines.{rdp-rows, hcode-rows, hcode-columns, evenodd-rows}
 use Rattle.codes.proofs.Ordered.{ordered, after, sums-parity}
-use Rattle.codes.proofs.Positions.{cell-inside, rdp-n, rdp-first, rdp-parity, rdp-sums, hcode-n, hcode-parity, hcode-sums, xcode-n, xcode-parity, xcode-sums}
+use Rattle.codes.proofs.Positions.{cell-inside, rdp-n, rdp-first, rdp-parity, rdp-sums, hcode-n, hcode-parity, hcode-sums, xcode-n, xcode-parity, xcode-sums, evenodd-n, evenodd-parity, evenodd-sums, evenodd-sums-all}
 use Rattle.codes.proofs.Geometry.{number-at, row-at, column-at}
 use Rattle.codes.proofs.Held.{data-holds, parity-holds, none-after, held-below, held-is}
 use Rattle.codes.proofs.Units.{depend}
@@ -35,6 +35,13 @@ turn-below a n p lo e = let l : n % p < p = mod-lt n (omega arith) in omega arit
 
 pub small-turn : (a n p : ℕ) → 3 ≤ p → p ≤ 31 → a ≡ n % p → a ≤ 31
 small-turn a n p lo hi e = omega (arith, turn-below a n p lo e)
+
+-- a diagonal is one of the first p - 1 unless row and column are p - 1 together
+pub off-last : (p i j : ℕ) → i < p - 1 → j < p → i + j ≢ p - 1 → (i + j) % p < p - 1
+off-last p i j li lj n =
+    by-less (i + j) p
+    (λ l. let at : (i + j) % p ≡ i + j = mod-eq-of-lt l in omega arith)
+    (λ l. let at = wrapped p (i + j) l (omega arith) in omega arith)
 
 module _ (s : Shape) (w : WellFormed s) (c : ℕ) (inside : c < cells s) (plain : isParity s c ≡ false) where
   -- no equation sums the parity cell of one that holds the cell
@@ -168,6 +175,13 @@ module _ (s : Shape) (w : WellFormed s) (i j : ℕ) (cell : DataCell s i j) wher
     pub xcode-column-small : j < s .p
     xcode-column-small = omega (arith, cell .right, columns-third s is-xcode)
 
+  module _ (is-evenodd : s .code ≡ 4) where
+    pub evenodd-row-small : i < s .p - 1
+    evenodd-row-small = omega (arith, cell .low, evenodd-rows s w is-evenodd)
+
+    pub evenodd-column-small : j < s .p
+    evenodd-column-small = leb-false (s .p) j (evenodd-parity s w is-evenodd i j (cell .low) (cell .right) ∙ cell .plain)
+
   -- in the other codes no equation sums a parity cell
   pub other-depends : s .code ≢ 1 → (m : ℕ) → HeldBy s (cellNumber s i j) m → DependOn s (cellNumber s i j) m
   other-depends other m h =
@@ -177,19 +191,21 @@ module _ (s : Shape) (w : WellFormed s) (i j : ℕ) (cell : DataCell s i j) wher
   -- an equation that holds the cell: its row, or its line of the first family
   data-some : (q : ℕ) × (q < equations s) × (sumsCell s q (cellNumber s i j) ≡ true)
   data-some =
-      by-equal (s .code) 1
+      by-code s w
       (λ e. let l : i < equations s = omega (arith, rdp-row-small e, rdp-n s w e) in
       (i, l, rdp-sums s w e i j (rdp-row-small e) (rdp-column-small e) i l ∙ or-left _ (eq-eqb i i refl)))
-      (λ n. by-equal (s .code) 2
       (λ e. let l : i < equations s = omega (arith, hcode-row-small e, hcode-n s w e) in
       (i, l, hcode-sums s w e i j (hcode-row-small e) (hcode-column-small e) (hcode-off e) i l ∙ or-left _ (eq-eqb i i refl)))
-      (λ n′. let e = third n n′ in
-      let small : (j + (s .p - 2 - i)) % s .p < s .p = mod-lt (j + (s .p - 2 - i)) pos in
+      (λ e. let small : (j + (s .p - 2 - i)) % s .p < s .p = mod-lt (j + (s .p - 2 - i)) pos in
       let l : (j + (s .p - 2 - i)) % s .p < equations s = omega (arith, xcode-n s w e) in
-      ((j + (s .p - 2 - i)) % s .p, l, xcode-sums s w e i j (xcode-row-small e) (xcode-column-small e) ((j + (s .p - 2 - i)) % s .p) l ∙ or-left _ (eq-eqb ((j + (s .p - 2 - i)) % s .p) ((j + (s .p - 2 - i)) % s .p) refl))))
-    where
-      third : s .code ≢ 1 → s .code ≢ 2 → s .code ≡ 3
-      third a b = omega (arith, w .codeLow, w .codeHigh)
+      ((j + (s .p - 2 - i)) % s .p, l, xcode-sums s w e i j (xcode-row-small e) (xcode-column-small e) ((j + (s .p - 2 - i)) % s .p) l ∙ or-left _ (eq-eqb ((j + (s .p - 2 - i)) % s .p) ((j + (s .p - 2 - i)) % s .p) refl)))
+      (λ e. let l : i < equations s = omega (arith, evenodd-row-small e, evenodd-n s w e) in (
+        i,
+        l,
+        by-equal (i + j) (s .p - 1)
+            (λ on. evenodd-sums-all s w e i j (evenodd-row-small e) (evenodd-column-small e) on i l ∙ or-left _ (eq-eqb i i refl))
+            (λ off. evenodd-sums s w e i j (evenodd-row-small e) (evenodd-column-small e) off i l ∙ or-left _ (eq-eqb i i refl)),
+      ))
 
 -- ---- every cell is held, so the set of the equations that hold it is not empty
 

@@ -16,7 +16,7 @@ use Rattle.codes.specs.declared.Shape.{Shape}
 use Rattle.codes.specs.Shape.{rows, columns, equations, cells, cellNumber, missing, disks, existing, stripeLength, WellFormed}
 use Rattle.codes.specs.Geometry.{gap, isThere, cellThere, columnOf, liesAt, cellOf, callersCell, place}
 use Rattle.codes.specs.Encoded.{parityCell, byteAt, isParity}
-use Rattle.codes.proofs.Shapes.{rows-low, rows-high, few-columns, missing-low, missing-other, disks-is, disks-high, length-high}
+use Rattle.codes.proofs.Shapes.{mostBytes, rows-low, rows-high, few-columns, missing-low, missing-other, disks-is, disks-high, length-high}
 use Rattle.codes.proofs.Places.{cell-ends, cells-apart}
 use Rattle.codes.proofs.Lines.{rdp-rows}
 use Rattle.codes.proofs.Positions.{row-is, column-is, cell-inside, parity-some, families, rdp-n, rdp-first, rdp-second}
@@ -167,7 +167,7 @@ module _ (s : Shape) (w : WellFormed s) where
   unfolding place
   place-inside c l h = cell-ends s w (callersCell s c) (callers-inside c l h)
 
-  pub place-small : (c : ℕ) → c < cells s → cellThere s c ≡ true → place s c ≤ 3936256
+  pub place-small : (c : ℕ) → c < cells s → cellThere s c ≡ true → place s c ≤ mostBytes
   place-small c l h = omega (arith, place-inside c l h, length-high s w)
 
   -- two different cells do not meet
@@ -221,7 +221,7 @@ module _ (s : Shape) (w : WellFormed s) where
   pub column-small : (n : ℕ) → n ≡ rows s → n * s .cell ≤ 126976
   column-small n e = mul-le-mul (let few : n ≤ 31 = omega (arith, rows-high s w) in few) (w .cellHigh)
 
-  pub first-small : (j : ℕ) → j < columns s → isThere s j ≡ true → place s (cellNumber s 0 j) ≤ 3936256
+  pub first-small : (j : ℕ) → j < columns s → isThere s j ≡ true → place s (cellNumber s 0 j) ≤ mostBytes
   first-small j l h = place-small (cellNumber s 0 j) (cell-inside s w 0 j tall l) (cell-there-at 0 j tall ∙ h)
 
   pub place-down : (i j from : ℕ) → i < rows s → from ≡ place s (cellNumber s 0 j) → from + i * s .cell ≡ place s (cellNumber s i j)

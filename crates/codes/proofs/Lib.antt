@@ -12,6 +12,7 @@ pub mod Geometry
 pub mod Parity
 pub mod Built
 pub mod Stepping
+pub mod Shared
 pub mod Short
 pub mod Whole
 pub mod Walked

@@ -12,9 +12,9 @@ use Rattle.xor.specs.Xor.{xors}
 use Rattle.xor.proofs.Sums.{xors-same, Lists, xors-listed}
 use Rattle.codes.specs.declared.Shape.{Shape}
 use Rattle.codes.specs.Shape.{rows, columns, cells, cellNumber, equations, WellFormed}
-use Rattle.codes.specs.Equations.{Equation, rdp, hcode, xcode, equation, rdpRow, rdpDiagonal, hcodeRow, hcodeAntiDiagonal, xcodeFirst, xcodeSecond}
+use Rattle.codes.specs.Equations.{Equation, rdp, hcode, xcode, evenodd, equation, rdpRow, rdpDiagonal, hcodeRow, hcodeAntiDiagonal, xcodeFirst, xcodeSecond, evenoddRow, evenoddDiagonal}
 use Rattle.codes.specs.Encoded.{sumsCell, sumOver}
-use Rattle.codes.proofs.Shapes.{low, high, rows-low, few-columns, rdp-is, hcode-is, xcode-is, rows-of, columns-of, equations-of, first-of, second-of}
+use Rattle.codes.proofs.Shapes.{low, high, rows-low, few-columns, rdp-is, hcode-is, xcode-is, evenodd-is, rows-of, columns-of, equations-of, first-of, second-of}
 use Rattle.codes.proofs.Residues.{steps-back, turns}
 
 -- a track of `count` cells: it starts in a row and a column, and each next cell is `fall` rows down and `step` columns on, mod p
@@ -268,3 +268,21 @@ module _ (s : Shape) (w : WellFormed s) where
 
     pub xcode-second-is : (q : ℕ) → s .p ≤ q → equation s q ≡ xcodeSecond (s .p) (q - s .p)
     xcode-second-is = second-of s (xcode (s .p)) (xcode-is s is-xcode)
+
+  -- ---- EVENODD
+
+  module _ (is-evenodd : s .code ≡ 4) where
+    pub evenodd-rows : s .p - 1 ≡ rows s
+    evenodd-rows = rows-of s (evenodd (s .p)) (evenodd-is s is-evenodd)
+
+    pub evenodd-columns : s .p + 2 ≡ columns s
+    evenodd-columns = columns-of s (evenodd (s .p)) (evenodd-is s is-evenodd)
+
+    pub evenodd-n : equations s ≡ 2 * (s .p - 1)
+    evenodd-n = sym (equations-of s (evenodd (s .p)) (evenodd-is s is-evenodd))
+
+    pub evenodd-row-is : (q : ℕ) → q < s .p - 1 → equation s q ≡ evenoddRow (s .p) q
+    evenodd-row-is = first-of s (evenodd (s .p)) (evenodd-is s is-evenodd)
+
+    pub evenodd-diagonal-is : (q : ℕ) → s .p - 1 ≤ q → equation s q ≡ evenoddDiagonal (s .p) (q - (s .p - 1))
+    evenodd-diagonal-is = second-of s (evenodd (s .p)) (evenodd-is s is-evenodd)

@@ -1,5 +1,5 @@
 -- The equations in their order: each parity cell is in the stripe and no other's, and no equation up to its own sums it.
--- One computed test over the three codes and the ten primes, on the rows and columns of the parity cells.
+-- One computed test over the four codes and the ten primes, on the rows and columns of the parity cells.
 use mathlib.Core.Path.{_≡_, refl, sym, _∙_}
 use mathlib.Core.Bool.{Bool, true, false, cond, not, _&&_, _||_, Bool·beq}
 use Prim.Native.Nat.{ℕ, _+_, _-_, _*_, _%_, _≤_, _<_}
@@ -40,6 +40,7 @@ in-order =
     (each-prime (λ p. disordered 1 p ≡ false) refl refl refl refl refl refl refl refl refl refl)
     (each-prime (λ p. disordered 2 p ≡ false) refl refl refl refl refl refl refl refl refl refl)
     (each-prime (λ p. disordered 3 p ≡ false) refl refl refl refl refl refl refl refl refl refl)
+    (each-prime (λ p. disordered 4 p ≡ false) refl refl refl refl refl refl refl refl refl refl)
 
 -- what the test says of a well-formed shape
 pub record Ordered (s : Shape) : Type 0 where
@@ -109,7 +110,7 @@ module _ (s : Shape) (w : WellFormed s) where
 
   after-high : (r : ℕ) → rows s ≤ after s r
   unfolding rows
-  after-high r = each-code (λ n. let t : Shape = record { code = n; p = s .p; cell = s .cell; width = s .width } in codeOf t .rows ≤ after t r) (omega arith) (omega arith) (omega arith) (s .code) (w .codeLow) (w .codeHigh)
+  after-high r = each-code (λ n. let t : Shape = record { code = n; p = s .p; cell = s .cell; width = s .width } in codeOf t .rows ≤ after t r) (omega arith) (omega arith) (omega arith) (omega arith) (s .code) (w .codeLow) (w .codeHigh)
 
   pub ordered : Ordered s
   unfolding parityCell

@@ -1,5 +1,5 @@
 -- Cells by their row and column: which are parity cells, and which equations sum the others.
-use mathlib.Core.Path.{_≡_, sym, ap, ap₂, _∙_, subst}
+use mathlib.Core.Path.{_≡_, refl, sym, ap, ap₂, _∙_, subst}
 use mathlib.Core.Logic.{_≢_}
 use mathlib.Core.Bool.{true, not, _&&_, _||_}
 use Prim.Native.Nat.{ℕ, _+_, _-_, _*_, _/_, _%_, _≤_, _<_}
@@ -12,12 +12,12 @@ use Rattle.xor.proofs.Cases.{by-less, by-equal, and-left, and-right, and-both, 
 use Rattle.xor.proofs.Sets.{any-at, any-some}
 use Rattle.codes.specs.declared.Shape.{Shape}
 use Rattle.codes.specs.Shape.{rows, columns, equations, cells, cellNumber, WellFormed}
-use Rattle.codes.specs.Equations.{Equation, Code, rdp, hcode, xcode, codeOf, equation, rdpDiagonal, hcodeAntiDiagonal, xcodeSecond}
+use Rattle.codes.specs.Equations.{Equation, Code, rdp, hcode, xcode, evenodd, codeOf, equation, rdpDiagonal, hcodeAntiDiagonal, xcodeSecond, evenoddS, evenoddDiagonal}
 use Rattle.codes.specs.Encoded.{parityCell, sumsCell, isParity}
-use Rattle.codes.proofs.Shapes.{mostCells, mostBytes, low, cells-high, rdp-is, hcode-is, xcode-is, equations-of, first-of, second-at}
+use Rattle.codes.proofs.Shapes.{mostCells, mostBytes, low, cells-high, rdp-is, hcode-is, xcode-is, evenodd-is, equations-of, first-of, second-at}
 use Rattle.codes.proofs.Residues.{wrapped, there-and-back}
-use Rattle.codes.proofs.Lines.{rdp-rows, rdp-columns, hcode-rows, xcode-columns}
-pub use Rattle.codes.proofs.Lines.{rdp-n, hcode-n, xcode-n, xcode-rows}
+use Rattle.codes.proofs.Lines.{rdp-rows, rdp-columns, hcode-rows, xcode-columns, evenodd-rows, evenodd-columns}
+pub use Rattle.codes.proofs.Lines.{rdp-n, hcode-n, xcode-n, xcode-rows, evenodd-n}
 
 -- two families of n equations each
 pub families : (P : ℕ → Type 0) (n : ℕ) → ((r : ℕ) → r < n → P r) → ((d : ℕ) → d < n → P (n + d)) → (q : ℕ) → q < 2 * n → P q
@@ -25,6 +25,13 @@ families P n first second q l = by-less q n (first q) (λ k. subst P (whole k) (
   where
     whole : n ≤ q → n + (q - n) ≡ q
     whole k = omega arith
+
+-- a cell before column m is on row r where it is in row r
+row-test : (m i j r : ℕ) → j < m → (eqb i r && ltb j m) ≡ eqb r i
+row-test m i j r l =
+    same-test
+    (λ h. eq-eqb r i (sym (eqb-true i r (and-left (eqb i r) (ltb j m) h))))
+    (λ h. and-both (eq-eqb i r (sym (eqb-true r i h))) (lt-ltb j m l))
 
 module _ (s : Shape) (w : WellFormed s) where
   pub row-is : (i j : ℕ) → i < rows s → cellNumber s i j % rows s ≡ i
@@ -102,6 +109,20 @@ module _ (s : Shape) (w : WellFormed s) where
         at : (e : Equation) → e .row < rows s → cellNumber s (e .row) (e .column) ≡ cellNumber s i j → (e .row ≡ i → e .column ≡ j → A) → A
         at e l same k = k (same-row (e .row) (e .column) i j l li same) (same-column (e .row) (e .column) i j l li same)
 
+    -- the parity cells of the first family are column k, and those of the second column k + 1: the last two
+    parity-columns : (k : ℕ) → c .size ≡ rows s → columns s ≡ k + 2 → ((r : ℕ) → (c .first r .row ≡ r) × (c .first r .column ≡ k)) → ((d : ℕ) → (c .second d .row ≡ d) × (c .second d .column ≡ k + 1))
+        → (i j : ℕ) → i < rows s → j < columns s → leb k j ≡ isParity s (cellNumber s i j)
+    parity-columns k height width one other i j li lj =
+        same-test
+        (λ h. by-equal j k
+        (λ e. parity-yes i (cellNumber s i j) (omega (arith, equations-of s c is)) (first-parity i (omega arith) ∙ ap₂ (cellNumber s) (one i .0) (one i .1 ∙ sym e)))
+        (λ n. parity-yes (c .size + i) (cellNumber s i j) (omega (arith, equations-of s c is)) (second-parity i ∙ ap₂ (cellNumber s) (other i .0) (other i .1 ∙ last n (leb-true k j h)))))
+        (λ h. parity-cases i j li (λ r l. (omega (arith, one r .0), omega (arith, other r .0))) h
+        (λ r l er ec. le-leb k j (omega (arith, one r .1))) (λ d l er ec. le-leb k j (omega (arith, other d .1))))
+      where
+        last : j ≢ k → k ≤ j → k + 1 ≡ j
+        last n lo = omega arith
+
     -- a cell that one equation of each family sums
     two-lines : (i j a b : ℕ) → i < rows s → a < c .size → ((r : ℕ) → r < c .size → c .first r .sums i j ≡ eqb r a) → ((d : ℕ) → d < c .size → c .second d .sums i j ≡ eqb d b)
         → (q : ℕ) → q < equations s → sumsCell s q (cellNumber s i j) ≡ (eqb q a || eqb q (c .size + b))
@@ -131,28 +152,16 @@ module _ (s : Shape) (w : WellFormed s) where
 
     -- parity is in the last two columns
     pub rdp-parity : (i j : ℕ) → i < rows s → j < columns s → leb (s .p - 1) j ≡ isParity s (cellNumber s i j)
-    rdp-parity i j li lj =
-        same-test
-        (λ h. by-equal j (s .p - 1)
-        (λ e. parity-yes i (cellNumber s i j) (omega (arith, rdp-n s w is-rdp, height)) (rdp-first i (omega (arith, height)) ∙ ap (cellNumber s i) (sym e)))
-        (λ n. parity-yes (s .p - 1 + i) (cellNumber s i j) (omega (arith, rdp-n s w is-rdp, height)) (rdp-second i (omega (arith, height)) ∙ ap (cellNumber s i) (last n (leb-true (s .p - 1) j h)))))
-        (λ h. parity-cases (rdp (s .p)) (rdp-is s is-rdp) i j li (λ r l. (omega (arith, height), omega (arith, height))) h
-        (λ r l er ec. le-leb (s .p - 1) j (omega arith)) (λ d l er ec. le-leb (s .p - 1) j (omega arith)))
-      where
-        height : s .p - 1 ≡ rows s
-        height = rdp-rows s w is-rdp
-
-        last : j ≢ s .p - 1 → s .p - 1 ≤ j → s .p ≡ j
-        last n lo = omega (arith, rdp-columns s w is-rdp)
+    rdp-parity =
+        parity-columns (rdp (s .p)) (rdp-is s is-rdp) (s .p - 1) (rdp-rows s w is-rdp) (omega (arith, rdp-columns s w is-rdp, low s w)) (λ r. (refl, refl))
+        (λ d. (refl, (let z : s .p ≡ s .p - 1 + 1 = omega (arith, low s w) in z)))
 
     -- a data cell is in its row and on its diagonal
     pub rdp-sums : (i j : ℕ) → i < s .p - 1 → j < s .p - 1 → (q : ℕ) → q < equations s
         → sumsCell s q (cellNumber s i j) ≡ (eqb q i || eqb q (s .p - 1 + (i + j) % s .p))
     rdp-sums i j li lj =
         two-lines (rdp (s .p)) (rdp-is s is-rdp) i j i ((i + j) % s .p) (omega (arith, rdp-rows s w is-rdp)) li
-        (λ r l. same-test
-        (λ h. eq-eqb r i (sym (eqb-true i r (and-left (eqb i r) (ltb j (s .p - 1)) h))))
-        (λ h. and-both (eq-eqb i r (sym (eqb-true r i h))) (lt-ltb j (s .p - 1) lj)))
+        (λ r l. row-test (s .p - 1) i j r lj)
         (λ d l. same-test
         (λ h. eq-eqb d ((i + j) % s .p) (sym (eqb-true ((i + j) % s .p) d (and-right (ltb i (s .p - 1)) (eqb ((i + j) % s .p) d) (and-right (ltb j (s .p)) (ltb i (s .p - 1) && eqb ((i + j) % s .p) d) h)))))
         (λ h. and-both (lt-ltb j (s .p) (omega arith)) (and-both (lt-ltb i (s .p - 1) li) (eq-eqb ((i + j) % s .p) d (sym (eqb-true d ((i + j) % s .p) h))))))
@@ -278,3 +287,50 @@ module _ (s : Shape) (w : WellFormed s) where
         -- a column that is x on from c is p - x back from where it came
         turn : (c k x y : ℕ) → c < s .p → x + y ≡ s .p → k ≡ (c + x) % s .p → (k + y) % s .p ≡ c
         turn c k x y l e at = ap (λ (z : ℕ). (z + y) % s .p) at ∙ there-and-back (s .p) c x y l e
+
+  -- ---- EVENODD
+
+  module _ (is-evenodd : s .code ≡ 4) where
+    pub evenodd-first : (r : ℕ) → r < s .p - 1 → parityCell s r ≡ cellNumber s r (s .p)
+    evenodd-first = first-parity (evenodd (s .p)) (evenodd-is s is-evenodd)
+
+    pub evenodd-second-is : (d : ℕ) → equation s (s .p - 1 + d) ≡ evenoddDiagonal (s .p) d
+    evenodd-second-is = second-at s (evenodd (s .p)) (evenodd-is s is-evenodd)
+
+    pub evenodd-second : (d : ℕ) → parityCell s (s .p - 1 + d) ≡ cellNumber s d (s .p + 1)
+    evenodd-second = second-parity (evenodd (s .p)) (evenodd-is s is-evenodd)
+
+    -- parity is in the last two columns
+    pub evenodd-parity : (i j : ℕ) → i < rows s → j < columns s → leb (s .p) j ≡ isParity s (cellNumber s i j)
+    evenodd-parity = parity-columns (evenodd (s .p)) (evenodd-is s is-evenodd) (s .p) (evenodd-rows s w is-evenodd) (sym (evenodd-columns s w is-evenodd)) (λ r. (refl, refl)) (λ d. (refl, refl))
+
+    -- the cells of S have row and column p - 1 together
+    pub s-test : (i j : ℕ) → i < s .p - 1 → j < s .p → evenoddS (s .p) i j ≡ eqb (i + j) (s .p - 1)
+    s-test i j li lj =
+        same-test
+        (λ h. let at = eqb-true i (s .p - 1 - j) (and-right (ltb j (s .p)) (eqb i (s .p - 1 - j)) (and-right (ltb 0 j) (ltb j (s .p) && eqb i (s .p - 1 - j)) h)) in eq-eqb (i + j) (s .p - 1) (omega arith))
+        (λ h. let at = eqb-true (i + j) (s .p - 1) h in and-both (lt-ltb 0 j (omega arith)) (and-both (lt-ltb j (s .p) lj) (eq-eqb i (s .p - 1 - j) (omega arith))))
+
+    -- a data cell off them is in its row and on its diagonal
+    pub evenodd-sums : (i j : ℕ) → i < s .p - 1 → j < s .p → i + j ≢ s .p - 1 → (q : ℕ) → q < equations s
+        → sumsCell s q (cellNumber s i j) ≡ (eqb q i || eqb q (s .p - 1 + (i + j) % s .p))
+    evenodd-sums i j li lj off =
+        two-lines (evenodd (s .p)) (evenodd-is s is-evenodd) i j i ((i + j) % s .p) (omega (arith, evenodd-rows s w is-evenodd)) li
+        (λ r l. row-test (s .p) i j r lj)
+        (λ d l. rw (s-test i j li lj, ne-eqb (i + j) (s .p - 1) off) (same-test
+        (λ h. eq-eqb d ((i + j) % s .p) (sym (eqb-true ((i + j) % s .p) d (and-right (ltb j (s .p)) (eqb ((i + j) % s .p) d) h))))
+        (λ h. and-both (lt-ltb j (s .p) lj) (eq-eqb ((i + j) % s .p) d (sym (eqb-true d ((i + j) % s .p) h))))))
+
+    -- one of them is in its row, and every diagonal sums it
+    pub evenodd-sums-all : (i j : ℕ) → i < s .p - 1 → j < s .p → i + j ≡ s .p - 1 → (q : ℕ) → q < equations s
+        → sumsCell s q (cellNumber s i j) ≡ (eqb q i || leb (s .p - 1) q)
+    evenodd-sums-all i j li lj on q lq =
+        families (λ k. sumsCell s k (cellNumber s i j) ≡ (eqb k i || leb (s .p - 1) k)) (s .p - 1)
+        (λ r l. sums-of r _ (first-of s (evenodd (s .p)) (evenodd-is s is-evenodd) r l) i j height ∙ row-test (s .p) i j r lj
+        ∙ same-test (or-left _) (λ h. either (eqb r i) (leb (s .p - 1) r) h (λ e. e) (λ e. let far = leb-true (s .p - 1) r e in absurd (omega arith))))
+        (λ d l. sums-of (s .p - 1 + d) _ (evenodd-second-is d) i j height
+        ∙ or-left _ (s-test i j li lj ∙ eq-eqb (i + j) (s .p - 1) on) ∙ sym (or-right (eqb (s .p - 1 + d) i) (le-leb (s .p - 1) (s .p - 1 + d) (omega arith))))
+        q (omega (arith, evenodd-n s w is-evenodd))
+      where
+        height : i < rows s
+        height = omega (arith, evenodd-rows s w is-evenodd)

@@ -12,7 +12,7 @@ use Rattle.xor.specs.Sets.{any}
 use Rattle.xor.proofs.Cases.{by-test}
 use Rattle.xor.proofs.Sets.{any-none, none-any}
 use Rattle.codes.specs.declared.Shape.{Shape}
-use Rattle.codes.specs.Shape.{rows, disks, existing, stripeLength, WellFormed}
+use Rattle.codes.specs.Shape.{lastCode, rows, disks, existing, stripeLength, WellFormed}
 use Rattle.codes.specs.Geometry.{columnOf, cellAt}
 use Rattle.codes.specs.Encoded.{isParity}
 use Rattle.codes.specs.Refusals.{fault, outside, otherLength, order, refusal, codeFaults, sizeFaults, shapeFaults, stripeFaults, writeFaults, cellsFaults, columnsFaults}
@@ -45,7 +45,7 @@ module _ (s : Shape) where
       let m = none-of (codeFaults s) refl none in
       record {
         codeLow = omega (arith, eqb-false (s .code) 0 (m .0));
-        codeHigh = ltb-false 3 (s .code) (m .1 .0);
+        codeHigh = ltb-false lastCode (s .code) (m .1 .0);
         prime = not-false _ (m .1 .1 .0);
         cellLow = omega (arith, eqb-false (s .cell) 0 (n .0));
         cellHigh = ltb-false 4096 (s .cell) (n .1 .0);

@@ -1,7 +1,7 @@
 -- Laws of residues: sums and differences mod p.
 use mathlib.Core.Path.{_≡_, sym, ap, _∙_}
 use Prim.Native.Nat.{ℕ, _+_, _-_, _*_, _%_, _≤_, _<_}
-use native.Mathlib.Nat.{mod-eq-of-lt, mod-eq-sub-mod, mod-add-mod, add-mod-right, mul-add-mod-self-right, mul-comm, add-mul, one-mul}
+use native.Mathlib.Nat.{mod-lt, mod-eq-of-lt, mod-eq-sub-mod, mod-add-mod, add-mod-mod, add-mod-right, mul-add-mod-self-right, mul-comm, add-mul, one-mul}
 use native.Mathlib.Omega.{arith}
 
 -- a sum that goes past p once
@@ -15,6 +15,17 @@ there-and-back p n x y l e =
   where
     whole : n + x + y ≡ n + p
     whole = omega arith
+
+-- a residue with its rest to p
+pub rest : (p a : ℕ) → 0 < p → a % p + (p - a % p) ≡ p
+rest p a l = omega (arith, mod-lt a l)
+
+-- residues that a shift makes equal are equal
+pub shift-once : (p i r a : ℕ) → i < p → r < p → (i + a) % p ≡ (r + a) % p → i ≡ r
+shift-once p i r a li lr e = sym (back i li) ∙ ap (λ (n : ℕ). (n + (p - a % p)) % p) e ∙ back r lr
+  where
+    back : (n : ℕ) → n < p → ((n + a) % p + (p - a % p)) % p ≡ n
+    back n l = ap (λ (k : ℕ). (k + (p - a % p)) % p) (sym (add-mod-mod n a p)) ∙ there-and-back p n (a % p) (p - a % p) l (rest p a (omega arith))
 
 -- k steps of p - 1 columns are k columns back
 pub steps-back : (p k : ℕ) → 0 < p → k + (p - 1) * k ≡ k * p

@@ -1,4 +1,4 @@
--- Laws of the shape: the ten primes and the three codes, one after the other; what is small.
+-- Laws of the shape: the ten primes and the four codes, one after the other; what is small.
 use mathlib.Core.Path.{_≡_, refl, sym, ap, ap₂, _∙_, subst}
 use mathlib.Core.Logic.{_≢_, _⊎_, inl, inr, ⊎-elim}
 use mathlib.Core.Bool.{true, false, not, _||_}
@@ -9,7 +9,7 @@ use lib.Dec.{eqb, leb}
 use borrow.Author.Tests.{eqb-true, eq-eqb, ne-eqb, lt-ltb, le-ltb, le-leb}
 use Rattle.xor.proofs.Cases.{by-equal, by-less, either, clash, or-left, or-right, not-passed}
 use Rattle.codes.specs.declared.Shape.{Shape}
-use Rattle.codes.specs.Equations.{Equation, Code, rdp, hcode, xcode, codeOf, equation}
+use Rattle.codes.specs.Equations.{Equation, Code, rdp, hcode, xcode, evenodd, codeOf, equation}
 use Rattle.codes.specs.declared.Width.{Width}
 use Rattle.codes.specs.declared.Width.the-variants.{Full, Data}
 use Rattle.codes.specs.Shape.{lastCode, listed, mostCell, rows, columns, equations, cells, without, missing, wrongData, disks, existing, stripeLength, WellFormed}
@@ -56,25 +56,26 @@ prime-low = each-prime (λ p. 3 ≤ p) (omega arith) (omega arith) (omega arith)
 prime-high : (p : ℕ) → listed p ≡ true → p ≤ 31
 prime-high = each-prime (λ p. p ≤ 31) (omega arith) (omega arith) (omega arith) (omega arith) (omega arith) (omega arith) (omega arith) (omega arith) (omega arith) (omega arith)
 
--- what holds of each of the three codes
-pub each-code : (P : ℕ → Type 0) → P 1 → P 2 → P 3 → (code : ℕ) → 1 ≤ code → code ≤ lastCode → P code
-each-code P x1 x2 x3 code lo hi =
-    by-equal code 1 (λ e. subst P (sym e) x1) (λ n1. by-equal code 2 (λ e. subst P (sym e) x2) (λ n2. subst P (rest n1 n2) x3))
+-- what holds of each of the four codes
+pub each-code : (P : ℕ → Type 0) → P 1 → P 2 → P 3 → P 4 → (code : ℕ) → 1 ≤ code → code ≤ lastCode → P code
+each-code P x1 x2 x3 x4 code lo hi =
+    by-equal code 1 (λ e. subst P (sym e) x1)
+    (λ n1. by-equal code 2 (λ e. subst P (sym e) x2) (λ n2. by-equal code 3 (λ e. subst P (sym e) x3) (λ n3. subst P (rest n1 n2 n3) x4)))
   where
-    rest : code ≢ 1 → code ≢ 2 → 3 ≡ code
-    rest n1 n2 = omega arith
+    rest : code ≢ 1 → code ≢ 2 → code ≢ 3 → 4 ≡ code
+    rest n1 n2 n3 = omega arith
 
--- what holds of RDP, of H-Code and of X-Code at the stripe's prime holds of the stripe's code
-pub of-code : (P : Code → Type 0) (s : Shape) → WellFormed s → P (rdp (s .p)) → P (hcode (s .p)) → P (xcode (s .p)) → P (codeOf s)
-of-code P s w x1 x2 x3 = each-code (λ n. P (codeOf (record { code = n; p = s .p; cell = s .cell; width = s .width }))) x1 x2 x3 (s .code) (w .codeLow) (w .codeHigh)
+-- what holds of RDP, of H-Code, of X-Code and of EVENODD at the stripe's prime holds of the stripe's code
+pub of-code : (P : Code → Type 0) (s : Shape) → WellFormed s → P (rdp (s .p)) → P (hcode (s .p)) → P (xcode (s .p)) → P (evenodd (s .p)) → P (codeOf s)
+of-code P s w x1 x2 x3 x4 = each-code (λ n. P (codeOf (record { code = n; p = s .p; cell = s .cell; width = s .width }))) x1 x2 x3 x4 (s .code) (w .codeLow) (w .codeHigh)
 
 -- a fact that is shown for each code by itself
-pub by-code : {A : Type 0} (s : Shape) → WellFormed s → (s .code ≡ 1 → A) → (s .code ≡ 2 → A) → (s .code ≡ 3 → A) → A
-by-code {A} s w x1 x2 x3 = each-code (λ n. s .code ≡ n → A) x1 x2 x3 (s .code) (w .codeLow) (w .codeHigh) refl
+pub by-code : {A : Type 0} (s : Shape) → WellFormed s → (s .code ≡ 1 → A) → (s .code ≡ 2 → A) → (s .code ≡ 3 → A) → (s .code ≡ 4 → A) → A
+by-code {A} s w x1 x2 x3 x4 = each-code (λ n. s .code ≡ n → A) x1 x2 x3 x4 (s .code) (w .codeLow) (w .codeHigh) refl
 
--- what is neither RDP nor X-Code is H-Code
-pub hcode-left : (s : Shape) → WellFormed s → s .code ≢ 1 → s .code ≢ 3 → s .code ≡ 2
-hcode-left s w n1 n3 = omega (arith, w .codeLow, w .codeHigh)
+-- what is none of the others is H-Code
+pub hcode-left : (s : Shape) → WellFormed s → s .code ≢ 1 → s .code ≢ 3 → s .code ≢ 4 → s .code ≡ 2
+hcode-left s w n1 n3 n4 = omega (arith, w .codeLow, w .codeHigh)
 
 -- ---- rows, columns and equations, where the code is known
 
@@ -87,6 +88,9 @@ module _ (s : Shape) where
 
   pub xcode-is : s .code ≡ 3 → codeOf s ≡ xcode (s .p)
   xcode-is e = rw e refl
+
+  pub evenodd-is : s .code ≡ 4 → codeOf s ≡ evenodd (s .p)
+  evenodd-is e = rw e refl
 
   module _ (c : Code) (is : codeOf s ≡ c) where
     pub rows-of : c .rows ≡ rows s
@@ -118,9 +122,9 @@ module _ (s : Shape) where
         same : c .size + d - c .size ≡ d
         same = omega arith
 
-  -- what is no X-Code has p - 1 rows and p + 1 columns
-  pub extents-other : WellFormed s → s .code ≢ 3 → (s .p - 1 ≡ rows s) × (s .p + 1 ≡ columns s) × (2 * (s .p - 1) ≡ equations s)
-  extents-other w n = by-equal (s .code) 1 (λ e. extents (rdp (s .p)) (rdp-is e)) (λ n1. extents (hcode (s .p)) (hcode-is (hcode-left s w n1 n)))
+  -- RDP and H-Code have p - 1 rows and p + 1 columns
+  pub extents-other : WellFormed s → s .code ≢ 3 → s .code ≢ 4 → (s .p - 1 ≡ rows s) × (s .p + 1 ≡ columns s) × (2 * (s .p - 1) ≡ equations s)
+  extents-other w n n4 = by-equal (s .code) 1 (λ e. extents (rdp (s .p)) (rdp-is e)) (λ n1. extents (hcode (s .p)) (hcode-is (hcode-left s w n1 n n4)))
 
   pub columns-third : s .code ≡ 3 → s .p ≡ columns s
   columns-third e = columns-of (xcode (s .p)) (xcode-is e)
@@ -145,13 +149,13 @@ abbrev pub mostRows : ℕ
 mostRows = 31
 
 abbrev pub mostColumns : ℕ
-mostColumns = 32
+mostColumns = 33
 
 abbrev pub mostEquations : ℕ
 mostEquations = 62
 
 abbrev pub mostCells : ℕ
-mostCells = 961
+mostCells = 990
 
 abbrev pub mostBytes : ℕ
 mostBytes = mostCells * mostCell
@@ -207,18 +211,18 @@ module _ (s : Shape) (w : WellFormed s) where
   pub high : s .p ≤ 31
   high = prime-high (s .p) (w .prime)
 
-  -- p - 1 rows and p + 1 columns, and p of each
-  oblong : (first second : ℕ → Equation) → Sized (s .p) (record { rows = s .p - 1; columns = s .p + 1; size = s .p - 1; first = first; second = second })
-  oblong first second = record {
+  -- p - 1 rows and up to two columns more than p, and p of each
+  oblong : (more : ℕ) (first second : ℕ → Equation) → more ≤ 2 → Sized (s .p) (record { rows = s .p - 1; columns = s .p + more; size = s .p - 1; first = first; second = second })
+  oblong more first second few = record {
     rows-low = omega (arith, low);
     rows-high = omega (arith, high);
     wide = omega arith;
     columns-high = omega (arith, high);
     equations-high = omega (arith, high);
     cells-high =
-        let width : s .p + 1 ≤ 32 = omega (arith, high) in
+        let width : s .p + more ≤ 33 = omega (arith, high) in
         let height : s .p - 1 ≤ 30 = omega (arith, high) in
-        omega (arith, mul-le-mul width height);
+        mul-le-mul width height;
   }
 
   square : (first second : ℕ → Equation) → Sized (s .p) (record { rows = s .p; columns = s .p; size = s .p; first = first; second = second })
@@ -228,11 +232,11 @@ module _ (s : Shape) (w : WellFormed s) where
     wide = omega arith;
     columns-high = omega (arith, high);
     equations-high = omega (arith, high);
-    cells-high = mul-le-mul high high;
+    cells-high = omega (arith, mul-le-mul high high);
   }
 
   sized : Sized (s .p) (codeOf s)
-  sized = of-code (Sized (s .p)) s w (oblong _ _) (oblong _ _) (square _ _)
+  sized = of-code (Sized (s .p)) s w (oblong 1 _ _ (omega arith)) (oblong 1 _ _ (omega arith)) (square _ _) (oblong 2 _ _ (omega arith))
 
   pub rows-low : 2 ≤ rows s
   unfolding rows
@@ -288,7 +292,3 @@ module _ (s : Shape) (w : WellFormed s) where
   pub length-high : stripeLength s ≤ mostBytes
   unfolding stripeLength
   length-high = mul-le-mul (let few : existing s ≤ mostCells = omega (arith, existing-high, cells-high) in few) (w .cellHigh)
-
--- the product of two numbers of rows or columns
-pub small-product : (a b : ℕ) → a ≤ 32 → b ≤ 32 → a * b ≤ 1024
-small-product a b la lb = mul-le-mul la lb

@@ -14,13 +14,14 @@ use Rattle.codes.specs.Shape.{rows, equations, disks, cellNumber, missin
 use Rattle.codes.specs.Geometry.{gap, isThere, columnOf, liesAt, callersCell}
 use Rattle.codes.specs.Equations.{rdpRow, rdpDiagonal}
 use Rattle.codes.specs.Encoded.{parityCell, sumsCell}
-use Rattle.codes.specs.Lines.{lineCount, Walks}
+use Rattle.codes.specs.Lines.{lineCount, Covers, Walks}
 use Rattle.codes.proofs.Shapes.{low, high, missing-low, disks-is}
 use Rattle.codes.proofs.Residues.{wrapped}
 use Rattle.codes.proofs.Lines.{rdp-rows, rdp-columns, rdp-n, rdp-row-is}
 use Rattle.codes.proofs.Positions.{families, sums-of, rdp-first, rdp-second, rdp-second-is}
 use Rattle.codes.proofs.Geometry.{there-cases, column-before, column-after, lies-before, lies-after, callers-at}
-use Rattle.codes.proofs.Stepping.{walk-is, count-plain, count-extra, cell-walked, cell-extra, goes-walks}
+use Rattle.codes.proofs.Stepping.{walk-is, count-plain, count-extra, count-few, cell-walked, cell-extra, goes-covers}
+use Rattle.codes.proofs.Shared.{none-takes, plain-walks}
 
 module _ (s : Shape) (w : WellFormed s) (is-rdp : s .code ≡ 1) where
   abbrev pub m : ℕ
@@ -81,7 +82,7 @@ module _ (s : Shape) (w : WellFormed s) (is-rdp : s .code ≡ 1) where
 
   pub row-walks : (q : ℕ) → q < s .p - 1 → (l : Line) → l .to ≡ callersCell s (parityCell s q) → l .count ≡ gap s → l .first ≡ q → l .step ≡ s .p - 1 → l .turn ≡ 0 → l .second ≡ 0 → l .extra ≡ 0 → Walks s q l
   row-walks q lq l to count first step turn second extra =
-      goes-walks s w q l (λ k. k) (λ k. q)
+      plain-walks s q l (none-takes s (λ e. omega arith) q) to (goes-covers s w (sumsCell s q) l (λ k. k) (λ k. q)
       (record {
         in-row = λ k lk. omega (arith, height);
         in-place = λ k lk. omega (arith, many, all-disks);
@@ -97,7 +98,7 @@ module _ (s : Shape) (w : WellFormed s) (is-rdp : s .code ≡ 1) where
         once = λ j k lj lk e a. a;
         at = λ k lk. cell-walked l k (omega (arith, many)) ∙ walk-is l (rows s) (λ k. k) (λ k. q) (first ∙ (let z : q ≡ 0 * rows s + q = omega (arith, zero-mul (rows s)) in z)) (λ k lk e. absurd (omega arith)) (λ k lk e. (omega arith, omega (arith, height))) k (omega (arith, many));
       })
-      to (omega (arith, m-low)) (omega (arith, m-high, high s w)) (omega (arith, high s w)) (omega arith)
+      (omega (arith, m-low)) (count-few l (omega (arith, m-high, high s w))) (omega (arith, high s w)) (omega arith))
     where
       many : lineCount l ≡ m
       many = count-plain l extra ∙ count
@@ -212,7 +213,7 @@ module _ (s : Shape) (w : WellFormed s) (is-rdp : s .code ≡ 1) where
 
       pub diagonal-walks : (q : ℕ) → s .p - 1 + d ≡ q → l .to ≡ callersCell s (parityCell s q) → Walks s q l
       diagonal-walks q known to =
-          subst (λ (r : ℕ). Walks s r l) known (goes-walks s w (s .p - 1 + d) l u i
+          plain-walks s q l (none-takes s (λ e. omega arith) q) to (subst (λ (r : ℕ). Covers s (sumsCell s r) l) known (goes-covers s w (sumsCell s (s .p - 1 + d)) l u i
           (record {
             in-row = λ k lk. omega (arith, on k lk .0, height);
             in-place = λ k lk. omega (arith, column-on (i k) (u k) (on k lk .1) .0, all-disks);
@@ -232,7 +233,7 @@ module _ (s : Shape) (w : WellFormed s) (is-rdp : s .code ≡ 1) where
                 (λ z. by-equal (d + 1) n (λ e. absurd (omega (arith, lonely e)))
                 (λ e. cell-extra l k z ∙ parity-extra e ∙ sym (ap₂ (λ (a b : ℕ). a * rows s + b) (corner k z .0) (corner k z .1) ∙ ap (λ (a : ℕ). m * a + (d + 1)) (sym height))));
           })
-          (to ∙ ap (λ (r : ℕ). callersCell s (parityCell s r)) (sym known)) some (omega (arith, most, m-high, high s w)) (omega (arith, high s w)) (omega (arith, small-cells (d + 2) (omega (arith, high s w)), high s w)))
+          some (count-few l (omega (arith, most, m-high, high s w))) (omega (arith, high s w)) (omega (arith, small-cells (d + 2) (omega (arith, high s w)), high s w))))
         where
           same : (j k : ℕ) → j < lineCount l → k < lineCount l → u j ≡ u k → j ≡ k
           same j k lj lk a = by-cell j lj

@@ -1,13 +1,13 @@
 -- How many parity cells depend on a data cell, by its position: the set of their equations, counted.
 use mathlib.Core.Path.{_≡_, refl, sym, ap, ap₂, _∙_}
 use mathlib.Core.Logic.{_≢_}
-use mathlib.Core.Bool.{Bool, true, false, cond, _||_}
-use Prim.Native.Nat.{ℕ, _+_, _-_, _%_, _^_, _≤_, _<_}
+use mathlib.Core.Bool.{Bool, true, false, cond, _&&_, _||_}
+use Prim.Native.Nat.{ℕ, zero, suc, _+_, _-_, _*_, _%_, _^_, _≤_, _<_}
 use native.Mathlib.Nat.{mod-lt, mod-eq-of-lt, zero-add}
 use native.Mathlib.Omega.{arith}
-use lib.Bits.{bitAnd, bitOr}
-use lib.Dec.{eqb, ltb}
-use borrow.Author.Tests.{lt-ltb, le-ltb, eq-eqb, ne-eqb}
+use lib.Bits.{bitAnd, bitOr, bitXor}
+use lib.Dec.{eqb, leb, ltb}
+use borrow.Author.Tests.{lt-ltb, le-ltb, lt-leb, le-leb, eq-eqb, ne-eqb}
 use Rattle.xor.specs.Sets.{count}
 use Rattle.xor.proofs.Cases.{by-equal, by-less}
 use Rattle.xor.proofs.Sets.{count-same, count-insert, count-never}
@@ -16,13 +16,13 @@ use Rattle.bits.proofs.Bits.{bit-or}
 use Rattle.codes.specs.declared.Shape.{Shape}
 use Rattle.codes.specs.Shape.{equations, cellNumber, WellFormed}
 use Rattle.codes.specs.Depends.{DataCell, DependOn}
-use Rattle.codes.specs.Holders.{HeldBy, Named}
+use Rattle.codes.specs.Holders.{HeldBy, Named, NamedFrom}
 use Rattle.codes.proofs.Shapes.{low}
 use Rattle.codes.proofs.Residues.{wrapped}
 use Rattle.codes.proofs.Lines.{rdp-columns}
-use Rattle.codes.proofs.Positions.{rdp-n, hcode-n, xcode-n}
-use Rattle.codes.proofs.Held.{named-is, rdp-held, hcode-held, xcode-held}
-use Rattle.codes.proofs.Depends.{rdp-row-small, rdp-column-small, two-diagonals, rdp-depends, hcode-row-small, hcode-column-small, hcode-off, one-of-them, xcode-row-small, other-depends}
+use Rattle.codes.proofs.Positions.{rdp-n, hcode-n, xcode-n, evenodd-n}
+use Rattle.codes.proofs.Held.{named-is, from-is, rdp-held, hcode-held, xcode-held, evenodd-held, evenodd-all-held}
+use Rattle.codes.proofs.Depends.{off-last, rdp-row-small, rdp-column-small, two-diagonals, rdp-depends, hcode-row-small, hcode-column-small, hcode-off, one-of-them, xcode-row-small, evenodd-row-small, evenodd-column-small, other-depends}
 
 -- one number more, if it is below n
 count-put : (n a : ℕ) (test : ℕ → Bool) → test a ≡ false → count n (λ k. eqb k a || test k) ≡ cond (ltb a n) 1 0 + count n test
@@ -30,6 +30,12 @@ count-put n a test new =
     by-less a n
     (λ l. rw (lt-ltb a n l) (count-insert n test a l new))
     (λ l. rw (le-ltb a n l) (count-same n (λ k. eqb k a || test k) test (λ k lk. ap (λ (b : Bool). b || test k) (ne-eqb k a (λ e. omega arith))) ∙ sym (zero-add (count n test))))
+
+-- of a + b numbers those from a on
+count-from : (a b : ℕ) → count (a + b) (λ k. leb a k) ≡ b
+unfolding count
+count-from a zero = ap (λ (n : ℕ). count n (λ k. leb a k)) (let z : a + 0 ≡ a = omega arith in z) ∙ count-never a (λ k. leb a k) (λ k l. lt-leb a k l)
+count-from a (suc b) = ap (λ (n : ℕ). count n (λ k. leb a k)) (let z : a + suc b ≡ suc (a + b) = omega arith in z) ∙ ap₂ _+_ (count-from a b) (ap (λ (x : Bool). cond x 1 0) (le-leb a (a + b) (omega arith))) ∙ (let z : b + 1 ≡ suc b = omega arith in z)
 
 -- the set of two equations, those of them that there are
 module _ (s : Shape) where
@@ -97,10 +103,7 @@ module _ (s : Shape) (w : WellFormed s) (i j : ℕ) (cell : DataCell s i j) wher
         off-diagonal z = let at : (i + j) % s .p ≡ i + j = mod-eq-of-lt (omega (arith, low s w)) in omega (arith, rdp-n s w is-rdp)
 
         inside-diagonal : i + j ≢ s .p - 1 → a < equations s
-        inside-diagonal z =
-            by-less (i + j) (s .p)
-            (λ l. let at : (i + j) % s .p ≡ i + j = mod-eq-of-lt l in omega (arith, rdp-n s w is-rdp, low s w))
-            (λ l. let at = wrapped (s .p) (i + j) l (omega (arith, small, small′)) in omega (arith, rdp-n s w is-rdp, small, small′, low s w))
+        inside-diagonal z = omega (arith, off-last (s .p) i j small (omega (arith, small′)) z, rdp-n s w is-rdp)
 
         counted : 1 + (cond (ltb a (equations s)) 1 0 + cond (ltb b (equations s)) 1 0) ≡ cond (eqb i 0 || eqb (i + j) (s .p - 1)) 2 3
         counted =
@@ -118,7 +121,7 @@ module _ (s : Shape) (w : WellFormed s) (i j : ℕ) (cell : DataCell s i j) wher
             join true y z = refl
             join false y z = refl
 
-  -- H-Code and X-Code: always 2
+  -- H-Code and X-Code: always 2; EVENODD off the diagonal of S too
   two-size : (a b : ℕ) → a ≢ b → a < equations s → b < equations s → s .code ≢ 1 → HeldBy s (cellNumber s i j) (pair s a b) → Sized s (cellNumber s i j) 2
   two-size a b n la lb other held = record {
     set = pair s a b;
@@ -148,3 +151,38 @@ module _ (s : Shape) (w : WellFormed s) (i j : ℕ) (cell : DataCell s i j) wher
       let turn′ : (j + (i + 2)) % s .p < s .p = mod-lt (j + (i + 2)) (omega arith) in
       two-size ((j + (s .p - 2 - i)) % s .p) (s .p + (j + (i + 2)) % s .p) (λ e. omega arith) (omega (arith, xcode-n s w is-xcode)) (omega (arith, xcode-n s w is-xcode)) (λ e. omega arith)
       (xcode-held s w i j (cell .low) (cell .right) (pair s ((j + (s .p - 2 - i)) % s .p) (s .p + (j + (i + 2)) % s .p)) is-xcode ((j + (s .p - 2 - i)) % s .p) ((j + (i + 2)) % s .p) (λ e. omega arith) (λ e. omega arith) refl refl (pair-set s ((j + (s .p - 2 - i)) % s .p) (s .p + (j + (i + 2)) % s .p)))
+
+  -- EVENODD: p where i + j = p - 1, otherwise 2
+  module _ (is-evenodd : s .code ≡ 4) where
+    level : i < s .p - 1
+    level = evenodd-row-small s w i j cell is-evenodd
+
+    right : j < s .p
+    right = evenodd-column-small s w i j cell is-evenodd
+
+    -- the set of row i and of all diagonals, as a number
+    all : ℕ
+    all = bitOr (2 ^ i) (bitXor (2 ^ equations s - 1) (2 ^ (s .p - 1) - 1))
+
+    all-set : NamedFrom s i (s .p - 1) all
+    unfolding all
+    all-set = from-is s i (s .p - 1) (equations s) (2 ^ i) (2 ^ equations s) (2 ^ (s .p - 1)) (omega (arith, level, evenodd-n s w is-evenodd)) (omega (arith, evenodd-n s w is-evenodd)) refl refl refl refl
+
+    -- one row, and p - 1 diagonals
+    all-size : count (equations s) (λ q. bit q all) ≡ s .p
+    all-size =
+        count-same (equations s) (λ q. bit q all) (λ q. eqb q i || leb (s .p - 1) q) (λ q l. all-set .bits q ∙ ap (λ (b : Bool). b && (eqb q i || leb (s .p - 1) q)) (lt-ltb q (equations s) l))
+        ∙ count-insert (equations s) (λ q. leb (s .p - 1) q) i (omega (arith, level, evenodd-n s w is-evenodd)) (lt-leb (s .p - 1) i level)
+        ∙ omega (arith, count-from (s .p - 1) (s .p - 1), ap (λ (n : ℕ). count n (λ q. leb (s .p - 1) q)) (evenodd-n s w is-evenodd ∙ (let z : 2 * (s .p - 1) ≡ s .p - 1 + (s .p - 1) = omega arith in z)), low s w)
+
+    pub evenodd-size : Sized s (cellNumber s i j) (cond (eqb (i + j) (s .p - 1)) (s .p) 2)
+    evenodd-size =
+        by-equal (i + j) (s .p - 1)
+        (λ e. rw (eq-eqb (i + j) (s .p - 1) e) (record {
+          set = all;
+          depends = other-depends s w i j cell (λ z. omega arith) all (evenodd-all-held s w i j (cell .low) (cell .right) all is-evenodd right e all-set);
+          size = all-size;
+        }))
+        (λ e. rw (ne-eqb (i + j) (s .p - 1) e) (let small = off-last (s .p) i j level right e in
+        two-size i (s .p - 1 + (i + j) % s .p) (λ z. omega (arith, level)) (omega (arith, level, evenodd-n s w is-evenodd)) (omega (arith, evenodd-n s w is-evenodd)) (λ z. omega arith)
+        (evenodd-held s w i j (cell .low) (cell .right) (pair s i (s .p - 1 + (i + j) % s .p)) is-evenodd ((i + j) % s .p) right e refl (pair-set s i (s .p - 1 + (i + j) % s .p)))))

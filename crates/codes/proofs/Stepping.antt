@@ -1,5 +1,5 @@
--- Lines as the code walks them, column after column as they lie: where each next cell is, and that a line which lies on the cells of an equation
--- walks it.
+-- Lines as the code walks them, column after column as they lie: where each next cell is, and that a line which lies on the cells of a
+-- test covers them.
 use mathlib.Core.Path.{_≡_, refl, sym, ap, ap₂, _∙_}
 use mathlib.Core.Logic.{_≢_}
 use mathlib.Core.Bool.{Bool, true, false, cond, _&&_}
@@ -16,8 +16,7 @@ use Rattle.codes.specs.declared.Shape.{Shape}
 use Rattle.codes.specs.declared.Line.{Line}
 use Rattle.codes.specs.Shape.{rows, columns, cells, disks, cellNumber, WellFormed}
 use Rattle.codes.specs.Geometry.{isThere, cellThere, columnOf, liesAt, callersCell}
-use Rattle.codes.specs.Encoded.{parityCell, sumsCell, sumOver}
-use Rattle.codes.specs.Lines.{walked, lineCount, lineCell, Walks}
+use Rattle.codes.specs.Lines.{sumWhere, walked, lineCount, lineCell, Covers}
 use Rattle.codes.proofs.Shapes.{existing-high, cells-high}
 use Rattle.codes.proofs.Positions.{cell-inside, same-row, same-column}
 use Rattle.codes.proofs.Geometry.{column-there, is-there, lies-column, column-lies, number-at, row-at, column-at, cell-there-at, callers-at, callers-inside}
@@ -61,33 +60,39 @@ pub cell-extra : (l : Line) (k : ℕ) → l .count ≤ k → lineCell l k ≡ l 
 unfolding lineCell
 cell-extra l k lk = rw (le-ltb k (l .count) lk) refl
 
--- ---- a line that lies on the cells of an equation
+pub count-most : (l : Line) → l .count ≤ lineCount l
+count-most l = by-equal (l .extra) 0 (λ e. omega (arith, count-plain l e)) (λ e. omega (arith, count-extra l e))
 
--- cell k of the line lies in row i k of the column at place u k: once for each cell that equation q sums and that exists
-pub record Goes (s : Shape) (q : ℕ) (l : Line) (u i : ℕ → ℕ) : Type 0 where
+pub count-few : (l : Line) → l .count ≤ 30 → lineCount l ≤ 31
+count-few l h = by-equal (l .extra) 0 (λ e. omega (arith, count-plain l e)) (λ e. omega (arith, count-extra l e))
+
+-- ---- a line that lies on the cells of a test
+
+-- cell k of the line lies in row i k of the column at place u k: once for each cell that passes the test and exists
+pub record Goes (s : Shape) (test : ℕ → Bool) (l : Line) (u i : ℕ → ℕ) : Type 0 where
   pub in-row : (k : ℕ) → k < lineCount l → i k < rows s
   pub in-place : (k : ℕ) → k < lineCount l → u k < disks s
-  pub passes : (k : ℕ) → k < lineCount l → sumsCell s q (cellNumber s (i k) (columnOf s (u k))) ≡ true
-  pub all : (x y : ℕ) → x < rows s → y < columns s → isThere s y ≡ true → sumsCell s q (cellNumber s x y) ≡ true → (k : ℕ) × (k < lineCount l) × (i k ≡ x) × (u k ≡ liesAt s y)
+  pub passes : (k : ℕ) → k < lineCount l → test (cellNumber s (i k) (columnOf s (u k))) ≡ true
+  pub all : (x y : ℕ) → x < rows s → y < columns s → isThere s y ≡ true → test (cellNumber s x y) ≡ true → (k : ℕ) × (k < lineCount l) × (i k ≡ x) × (u k ≡ liesAt s y)
   pub once : (j k : ℕ) → j < lineCount l → k < lineCount l → i j ≡ i k → u j ≡ u k → j ≡ k
   pub at : (k : ℕ) → k < lineCount l → lineCell l k ≡ u k * rows s + i k
 
-module _ (s : Shape) (w : WellFormed s) (q : ℕ) (l : Line) where
-  -- which cells an equation sums, of those that exist
-  abbrev sumsThere : ℕ → Bool
-  sumsThere c = sumsCell s q c && cellThere s c
+module _ (s : Shape) (w : WellFormed s) (test : ℕ → Bool) (l : Line) where
+  -- which cells pass the test, of those that exist
+  abbrev passesThere : ℕ → Bool
+  passesThere c = test c && cellThere s c
 
-  sum-there : (f : ℕ → ℕ) → ((c : ℕ) → cellThere s c ≡ false → f c ≡ 0) → sumOver s q f ≡ xors (cells s) (λ c. cond (sumsThere c) (f c) 0)
-  unfolding sumOver
+  sum-there : (f : ℕ → ℕ) → ((c : ℕ) → cellThere s c ≡ false → f c ≡ 0) → sumWhere s test f ≡ xors (cells s) (λ c. cond (passesThere c) (f c) 0)
+  unfolding sumWhere
   sum-there f blank =
-      xors-same (cells s) (λ c. cond (sumsCell s q c) (f c) 0) (λ c. cond (sumsThere c) (f c) 0)
-      (λ c lc. by-test (cellThere s c) (λ h. rw h (ap (λ (b : Bool). cond b (f c) 0) (both (sumsCell s q c)))) (λ h. rw h (nothing (sumsCell s q c) (f c) (blank c h) ∙ sym (nothing (sumsCell s q c && false) (f c) (blank c h)))))
+      xors-same (cells s) (λ c. cond (test c) (f c) 0) (λ c. cond (passesThere c) (f c) 0)
+      (λ c lc. by-test (cellThere s c) (λ h. rw h (ap (λ (b : Bool). cond b (f c) 0) (both (test c)))) (λ h. rw h (nothing (test c) (f c) (blank c h) ∙ sym (nothing (test c && false) (f c) (blank c h)))))
     where
       both : (b : Bool) → b ≡ (b && true)
       both true = refl
       both false = refl
 
-  module _ (u i : ℕ → ℕ) (h : Goes s q l u i) where
+  module _ (u i : ℕ → ℕ) (h : Goes s test l u i) where
     cell : ℕ → ℕ
     cell k = cellNumber s (i k) (columnOf s (u k))
 
@@ -103,7 +108,7 @@ module _ (s : Shape) (w : WellFormed s) (q : ℕ) (l : Line) where
     unfolding cell cellNumber
     at-callers k lk = h .at k lk ∙ ap (λ (x : ℕ). x * rows s + i k) (sym (lies-column s w (u k))) ∙ sym (callers-at s w (i k) (columnOf s (u k)) (h .in-row k lk))
 
-    lists : Lists (cells s) sumsThere (lineCount l) cell
+    lists : Lists (cells s) passesThere (lineCount l) cell
     unfolding cell
     lists = record {
       below = inside;
@@ -111,8 +116,8 @@ module _ (s : Shape) (w : WellFormed s) (q : ℕ) (l : Line) where
       all = λ c lc p.
           let x = c % rows s in
           let y = c / rows s in
-          let here : isThere s y ≡ true = sym (cell-there-at s w x y (row-at s w c)) ∙ ap (cellThere s) (number-at s w c) ∙ and-right (sumsCell s q c) (cellThere s c) p in
-          let found = h .all x y (row-at s w c) (column-at s w c lc) here (ap (sumsCell s q) (number-at s w c) ∙ and-left (sumsCell s q c) (cellThere s c) p) in
+          let here : isThere s y ≡ true = sym (cell-there-at s w x y (row-at s w c)) ∙ ap (cellThere s) (number-at s w c) ∙ and-right (test c) (cellThere s c) p in
+          let found = h .all x y (row-at s w c) (column-at s w c lc) here (ap test (number-at s w c) ∙ and-left (test c) (cellThere s c) p) in
           (found .0, found .1, ap₂ (λ (a b : ℕ). cellNumber s a (columnOf s b)) (found .2) (found .3) ∙ ap (cellNumber s x) (column-lies s w y here) ∙ number-at s w c);
       once = λ j k lj lk e. h .once j k lj lk (same-row s w (i j) (columnOf s (u j)) (i k) (columnOf s (u k)) (h .in-row j lj) (h .in-row k lk) e)
           (sym (lies-column s w (u j)) ∙ ap (liesAt s) (same-column s w (i j) (columnOf s (u j)) (i k) (columnOf s (u k)) (h .in-row j lj) (h .in-row k lk) e) ∙ lies-column s w (u k));
@@ -121,24 +126,20 @@ module _ (s : Shape) (w : WellFormed s) (q : ℕ) (l : Line) where
     small : (k : ℕ) → k < lineCount l → lineCell l k ≤ 1024
     small k lk = omega (arith, at-callers k lk, callers-inside s w (cell k) (inside k lk) (there k lk), existing-high s w, cells-high s w)
 
-    pub goes-walks : l .to ≡ callersCell s (parityCell s q) → 1 ≤ l .count → l .count ≤ 30 → l .step ≤ 1024 → l .second ≤ 1024 → Walks s q l
+    pub goes-covers : 1 ≤ l .count → lineCount l ≤ 31 → l .step ≤ 1024 → l .second ≤ 1024 → Covers s test l
     unfolding walked
-    goes-walks to some few step second = record {
-      to = to;
+    goes-covers some few step second = record {
       short = record { few = few; first = omega (arith, walked-small 0 some); step = step; second = second; extra = extra-small; at = walked-small };
       cell = cell;
       inside = inside;
       there = there;
       at = at-callers;
-      summed = λ k lk. and-left (sumsCell s q (cell k)) (cellThere s (cell k)) (lists .passes k lk);
-      sum = λ f blank. sum-there f blank ∙ xors-listed (cells s) sumsThere (lineCount l) cell lists f;
+      passes = λ k lk. and-left (test (cell k)) (cellThere s (cell k)) (lists .passes k lk);
+      sum = λ f blank. sum-there f blank ∙ xors-listed (cells s) passesThere (lineCount l) cell lists f;
     }
       where
-        plenty : l .count ≤ lineCount l
-        plenty = by-equal (l .extra) 0 (λ e. omega (arith, count-plain l e)) (λ e. omega (arith, count-extra l e))
-
         walked-small : (k : ℕ) → k < l .count → walked l k ≤ 1024
-        walked-small k lk = omega (arith, cell-walked l k lk, small k (omega (arith, plenty)))
+        walked-small k lk = omega (arith, cell-walked l k lk, small k (omega (arith, count-most l)))
 
         extra-small : l .extra ≤ 1024
         extra-small = by-equal (l .extra) 0 (λ e. omega arith) (λ e. omega (arith, cell-extra l (l .count) (omega arith), small (l .count) (omega (arith, count-extra l e))))

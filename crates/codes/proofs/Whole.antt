@@ -1,26 +1,27 @@
--- The lines of H-Code and X-Code, of which every column exists.
+-- The lines of H-Code, X-Code and EVENODD, of which every column exists.
 use mathlib.Core.Path.{_≡_, refl, sym, ap, ap₂, _∙_}
 use mathlib.Core.Logic.{_≢_}
-use mathlib.Core.Bool.{true, cond, not, _&&_}
-use Prim.Native.Nat.{ℕ, suc, _+_, _-_, _*_, _%_, _≤_, _<_}
-use native.Mathlib.Nat.{mod-lt, mod-eq-of-lt, mod-add-mod, mul-le-mul, zero-mul}
+use mathlib.Core.Bool.{Bool, true, false, cond, not, _&&_, _||_}
+use Prim.Native.Nat.{ℕ, suc, _+_, _-_, _*_, _/_, _%_, _≤_, _<_}
+use native.Mathlib.Nat.{mod-lt, mod-eq-of-lt, mod-add-mod, add-mod-right, mul-le-mul, add-mul, one-mul, zero-mul}
 use native.Mathlib.Omega.{arith}
-use lib.Dec.{eqb, ltb}
-use borrow.Author.Tests.{lt-ltb, le-ltb, eq-eqb, ne-eqb, ltb-true, eqb-true, eqb-false, not-true}
+use lib.Dec.{eqb, leb, ltb}
+use borrow.Author.Tests.{lt-ltb, le-ltb, le-leb, eq-eqb, ne-eqb, ltb-true, eqb-true, eqb-false, not-true}
 use Rattle.xor.proofs.Cases.{by-less, and-left, and-right, and-both}
 use Rattle.codes.specs.declared.Shape.{Shape}
 use Rattle.codes.specs.declared.Line.{Line}
 use Rattle.codes.specs.Shape.{rows, columns, equations, cellNumber, missing, WellFormed}
 use Rattle.codes.specs.Geometry.{callersCell}
-use Rattle.codes.specs.Equations.{Equation, hcodeRow, hcodeAntiDiagonal, equation}
+use Rattle.codes.specs.Equations.{Equation, hcodeRow, hcodeAntiDiagonal, evenoddRow, evenoddS, evenoddDiagonal, equation}
 use Rattle.codes.specs.Encoded.{parityCell, sumsCell}
-use Rattle.codes.specs.Lines.{lineCount, Walks}
-use Rattle.codes.proofs.Shapes.{low, high, missing-other, disks-is}
-use Rattle.codes.proofs.Residues.{wrapped}
-use Rattle.codes.proofs.Lines.{hcode-rows, hcode-columns, hcode-n, hcode-row-is, xcode-rows, xcode-columns, xcode-n, xcode-first-is, xcode-second-is}
-use Rattle.codes.proofs.Positions.{sums-of, hcode-first, hcode-second, xcode-first-at, xcode-second-at}
+use Rattle.codes.specs.Lines.{lineCount, shares, sharesCell, takesShared, ownCell, Covers, Walks}
+use Rattle.codes.proofs.Shapes.{low, high, small-equations, missing-other, disks-is}
+use Rattle.codes.proofs.Residues.{wrapped, shift-once}
+use Rattle.codes.proofs.Lines.{hcode-rows, hcode-columns, hcode-n, hcode-row-is, xcode-rows, xcode-columns, xcode-n, xcode-first-is, xcode-second-is, evenodd-rows, evenodd-columns, evenodd-n, evenodd-row-is, evenodd-diagonal-is}
+use Rattle.codes.proofs.Positions.{row-is, column-is, families, sums-of, hcode-first, hcode-second, xcode-first-at, xcode-second-at, evenodd-first, evenodd-second, s-test}
 use Rattle.codes.proofs.Geometry.{lies-all, column-all, callers-at}
-use Rattle.codes.proofs.Stepping.{walk-is, count-plain, cell-walked, goes-walks}
+use Rattle.codes.proofs.Stepping.{walk-is, count-plain, cell-walked, goes-covers}
+use Rattle.codes.proofs.Shared.{none-takes, row-takes, plain-walks}
 
 -- a row counted from the last but two
 lifted : (p c k : ℕ) → k < p - 2 → c + 1 + k ≡ p + c - (p - 3 - k) - 2
@@ -47,28 +48,39 @@ module _ (s : Shape) (w : WellFormed s) where
     whole-at q i j n height li at =
         ap₂ (λ (x y : ℕ). x * y + i) (sym (lies-all s full j)) height ∙ sym (callers-at s w i j li) ∙ ap (callersCell s) (sym at)
 
-    -- a line that is in row i k of column u k at cell k, once in each cell that passes the test, walks its equation
-    module _ (q : ℕ) (e : Equation) (is : equation s q ≡ e) (l : Line) (extra : l .extra ≡ 0) (u i : ℕ → ℕ) where
+    -- a line that is in row i k of column u k at cell k, once in each cell that passes the test, covers them
+    module _ (test : ℕ → Bool) (sums : ℕ → ℕ → Bool) (is : (x y : ℕ) → x < rows s → y < columns s → test (cellNumber s x y) ≡ sums x y) (l : Line) (extra : l .extra ≡ 0) (u i : ℕ → ℕ) where
+      pub whole-covers : ((k : ℕ) → k < l .count → (i k < rows s) × (u k < columns s) × (sums (i k) (u k) ≡ true))
+          → ((x y : ℕ) → x < rows s → y < columns s → sums x y ≡ true → (k : ℕ) × (k < l .count) × (i k ≡ x) × (u k ≡ y))
+          → ((j k : ℕ) → j < l .count → k < l .count → i j ≡ i k → u j ≡ u k → j ≡ k)
+          → l .first ≡ u 0 * rows s + i 0 → ((k : ℕ) → suc k < l .count → suc k ≡ l .turn → l .second ≡ u (suc k) * rows s + i (suc k))
+          → ((k : ℕ) → suc k < l .count → suc k ≢ l .turn → (u (suc k) ≡ u k + 1) × (i (suc k) + rows s ≡ i k + l .step))
+          → 1 ≤ l .count → l .count ≤ 31 → l .step ≤ 1024 → l .second ≤ 1024 → Covers s test l
+      whole-covers on every once first turned next some few step second =
+          goes-covers s w test l u i
+          (record {
+            in-row = λ k lk. on k (omega (arith, many)) .0;
+            in-place = λ k lk. omega (arith, on k (omega (arith, many)) .1, disks-is s w, full);
+            passes = λ k lk. let here = on k (omega (arith, many)) in ap (λ (j : ℕ). test (cellNumber s (i k) j)) (column-all s full (u k)) ∙ is (i k) (u k) (here .0) (here .1) ∙ here .2;
+            all = λ x y lx ly here p. let found = every x y lx ly (sym (is x y lx ly) ∙ p) in (found .0, omega (arith, many, found .1), found .2, found .3 ∙ sym (lies-all s full y));
+            once = λ j k lj lk. once j k (omega (arith, many)) (omega (arith, many));
+            at = λ k lk. let lk′ : k < l .count = omega (arith, many) in cell-walked l k lk′ ∙ walk-is l (rows s) u i first turned next k lk′;
+          })
+          some (omega (arith, many)) step second
+        where
+          many : lineCount l ≡ l .count
+          many = count-plain l extra
+
+    -- and walks its equation, where that takes in nothing
+    module _ (q : ℕ) (e : Equation) (is : equation s q ≡ e) (plain : takesShared s q ≡ false) (l : Line) (extra : l .extra ≡ 0) (u i : ℕ → ℕ) where
       pub whole-walks : ((k : ℕ) → k < l .count → (i k < rows s) × (u k < columns s) × (e .sums (i k) (u k) ≡ true))
           → ((x y : ℕ) → x < rows s → y < columns s → e .sums x y ≡ true → (k : ℕ) × (k < l .count) × (i k ≡ x) × (u k ≡ y))
           → ((j k : ℕ) → j < l .count → k < l .count → i j ≡ i k → u j ≡ u k → j ≡ k)
           → l .first ≡ u 0 * rows s + i 0 → ((k : ℕ) → suc k < l .count → suc k ≡ l .turn → l .second ≡ u (suc k) * rows s + i (suc k))
           → ((k : ℕ) → suc k < l .count → suc k ≢ l .turn → (u (suc k) ≡ u k + 1) × (i (suc k) + rows s ≡ i k + l .step))
-          → l .to ≡ callersCell s (parityCell s q) → 1 ≤ l .count → l .count ≤ 30 → l .step ≤ 1024 → l .second ≤ 1024 → Walks s q l
+          → l .to ≡ callersCell s (parityCell s q) → 1 ≤ l .count → l .count ≤ 31 → l .step ≤ 1024 → l .second ≤ 1024 → Walks s q l
       whole-walks on every once first turned next to some few step second =
-          goes-walks s w q l u i
-          (record {
-            in-row = λ k lk. on k (omega (arith, many)) .0;
-            in-place = λ k lk. omega (arith, on k (omega (arith, many)) .1, disks-is s w, full);
-            passes = λ k lk. let here = on k (omega (arith, many)) in ap (λ (j : ℕ). sumsCell s q (cellNumber s (i k) j)) (column-all s full (u k)) ∙ sums-of s w q e is (i k) (u k) (here .0) ∙ here .2;
-            all = λ x y lx ly here p. let found = every x y lx ly (sym (sums-of s w q e is x y lx) ∙ p) in (found .0, omega (arith, many, found .1), found .2, found .3 ∙ sym (lies-all s full y));
-            once = λ j k lj lk. once j k (omega (arith, many)) (omega (arith, many));
-            at = λ k lk. let lk′ : k < l .count = omega (arith, many) in cell-walked l k lk′ ∙ walk-is l (rows s) u i first turned next k lk′;
-          })
-          to some few step second
-        where
-          many : lineCount l ≡ l .count
-          many = count-plain l extra
+          plain-walks s q l plain to (whole-covers (sumsCell s q) (e .sums) (λ x y lx ly. sums-of s w q e is x y lx) l extra u i on every once first turned next some few step second)
 
   -- ---- H-Code: column k, or k + 1 past column r
 
@@ -122,7 +134,7 @@ module _ (s : Shape) (w : WellFormed s) where
 
     pub hcode-row-walks : (q : ℕ) → q < s .p - 1 → (l : Line) → l .to ≡ callersCell s (parityCell s q) → l .count ≡ s .p - 1 → l .first ≡ q → l .step ≡ s .p - 1 → l .turn ≡ q + 1 → l .second ≡ (q + 2) * (s .p - 1) + q → l .extra ≡ 0 → Walks s q l
     hcode-row-walks q lq l to count first step turn second extra =
-        whole-walks not-rdp q (hcodeRow (s .p) q) (hcode-row-is s w is-hcode q lq) l extra (skip q) (λ k. q)
+        whole-walks not-rdp q (hcodeRow (s .p) q) (hcode-row-is s w is-hcode q lq) (none-takes s (λ e. omega arith) q) l extra (skip q) (λ k. q)
         (λ k lk. (
           omega (arith, tall),
           omega (arith, below-p q k (omega arith), hcode-columns s w is-hcode),
@@ -170,7 +182,7 @@ module _ (s : Shape) (w : WellFormed s) where
       pub hcode-anti-walks : (q : ℕ) → equation s q ≡ hcodeAntiDiagonal (s .p) r → (l : Line) → l .to ≡ callersCell s (parityCell s q) → l .count ≡ s .p - 1 → l .first ≡ s .p - 1 - 1 - r → l .step ≡ s .p - 1 + 1 → l .turn ≡ r + 1
           → l .second ≡ (r + 2) * (s .p - 1) → l .extra ≡ 0 → Walks s q l
       hcode-anti-walks q is l to count first step turn second extra =
-          whole-walks not-rdp q (hcodeAntiDiagonal (s .p) r) is l extra (skip r) (row r)
+          whole-walks not-rdp q (hcodeAntiDiagonal (s .p) r) is (none-takes s (λ e. omega arith) q) l extra (skip r) (row r)
           (λ k lk. (
             omega (arith, row-low k (omega arith), tall),
             omega (arith, below-p r k (omega arith), hcode-columns s w is-hcode),
@@ -241,7 +253,7 @@ module _ (s : Shape) (w : WellFormed s) where
       family : l .first ≡ column * s .p + i 0 → ((k : ℕ) → suc k < s .p - 2 → suc k ≡ l .turn → l .second ≡ i (suc k)) → ((k : ℕ) → suc k < s .p - 2 → i (suc k) + s .p ≡ i k + l .step)
           → l .to ≡ callersCell s (parityCell s q) → l .step ≤ 1024 → l .second ≤ 1024 → Walks s q l
       family first second next to step small =
-          whole-walks not-rdp′ q (record { row = row; column = c; sums = λ x y. ltb x (s .p - 2) && eqb y (at x) }) is l extra (around column) i
+          whole-walks not-rdp′ q (record { row = row; column = c; sums = λ x y. ltb x (s .p - 2) && eqb y (at x) }) is (none-takes s (λ e. omega arith) q) l extra (around column) i
           (λ k lk. let lk′ : k < s .p - 2 = omega arith in
           (omega (arith, low-i k lk′, square), omega (arith, around-is column k lc (omega arith), below-mod (column + k), xcode-columns s w is-xcode), and-both (lt-ltb (i k) (s .p - 2) (low-i k lk′)) (eq-eqb (around column k) (at (i k)) (around-is column k lc (omega arith) ∙ goes k lk′))))
           (λ x y lx ly p.
@@ -277,3 +289,152 @@ module _ (s : Shape) (w : WellFormed s) where
 
         up : (k : ℕ) → k < s .p - 2 → q - s .p + 1 + k ≡ s .p + (q - s .p) - (s .p - 3 - k) - 2
         up k lk = lifted (s .p) (q - s .p) k lk
+
+  -- ---- EVENODD
+
+  module _ (is-evenodd : s .code ≡ 4) where
+    pub not-rdp″ : s .code ≢ 1
+    not-rdp″ e = omega arith
+
+    level : s .p - 1 ≡ rows s
+    level = evenodd-rows s w is-evenodd
+
+    -- the numbers of a line are small
+    pub evenodd-small : (q : ℕ) → q < equations s → s .p * (s .p - 1) + q ≤ 1054
+    evenodd-small q lq = omega (arith, small-columns (s .p) (s .p - 1) (omega (arith, high s w)) (omega arith), small-equations s w)
+
+    pub evenodd-second-small : (d : ℕ) → d < s .p - 1 → (d + 2) * (s .p - 1) + (s .p - 1 - 1) ≤ 1024
+    evenodd-second-small d ld = omega (arith, small-columns (d + 2) (s .p - 1) (omega (arith, high s w)) (omega arith), high s w)
+
+    -- where parity cells lie
+    pub evenodd-lies : (q : ℕ) → q < equations s → s .p * (s .p - 1) + q ≡ callersCell s (parityCell s q)
+    evenodd-lies q lq =
+        families (λ r. s .p * (s .p - 1) + r ≡ callersCell s (parityCell s r)) (s .p - 1)
+        (λ r l. whole-at not-rdp″ r r (s .p) (s .p - 1) level (omega (arith, level)) (evenodd-first s w is-evenodd r l))
+        (λ d l. (let z : s .p * (s .p - 1) + (s .p - 1 + d) ≡ (s .p + 1) * (s .p - 1) + d = omega (arith, add-mul (s .p) 1 (s .p - 1), one-mul (s .p - 1)) in z)
+        ∙ whole-at not-rdp″ (s .p - 1 + d) d (s .p + 1) (s .p - 1) level (omega (arith, level)) (evenodd-second s w is-evenodd d))
+        q (omega (arith, evenodd-n s w is-evenodd))
+
+    pub evenodd-row-walks : (q : ℕ) → q < s .p - 1 → (l : Line) → l .to ≡ callersCell s (parityCell s q) → l .count ≡ s .p → l .first ≡ q → l .step ≡ s .p - 1 → l .turn ≡ 0 → l .second ≡ 0 → l .extra ≡ 0 → Walks s q l
+    evenodd-row-walks q lq l to count first step turn second extra =
+        whole-walks not-rdp″ q (evenoddRow (s .p) q) (evenodd-row-is s w is-evenodd q lq) (row-takes s q (omega (arith, level))) l extra (λ k. k) (λ k. q)
+        (λ k lk. (omega (arith, level), omega (arith, evenodd-columns s w is-evenodd), and-both (eq-eqb q q refl) (lt-ltb k (s .p) (omega arith))))
+        (λ x y lx ly p. let ly′ : y < s .p = ltb-true y (s .p) (and-right (eqb x q) (ltb y (s .p)) p) in (y, omega arith, sym (eqb-true x q (and-left (eqb x q) (ltb y (s .p)) p)), refl))
+        (λ j k lj lk a b. b)
+        (first ∙ (let z : q ≡ 0 * rows s + q = omega (arith, zero-mul (rows s)) in z)) (λ k lk e. absurd (omega arith)) (λ k lk e. (omega arith, omega (arith, level)))
+        to (omega (arith, low s w)) (omega (arith, high s w)) (omega (arith, high s w)) (omega arith)
+
+    -- the row in which diagonal d, or that of S, meets the column of cell k
+    up : ℕ → ℕ → ℕ
+    up d k = cond (ltb k (d + 1)) (d - k) (s .p - 1 + d - k)
+
+    up-before : (d k : ℕ) → k < d + 1 → up d k ≡ d - k
+    unfolding up
+    up-before d k a = rw (lt-ltb k (d + 1) a) refl
+
+    up-behind : (d k : ℕ) → d + 1 ≤ k → up d k ≡ s .p - 1 + d - k
+    unfolding up
+    up-behind d k a = rw (le-ltb k (d + 1) a) refl
+
+    module _ (d : ℕ) (ld : d < s .p - 1) where
+      up-low : (k : ℕ) → k < s .p - 1 → up d k < s .p - 1
+      up-low k lk = by-less k (d + 1) (λ a. omega (arith, up-before d k a)) (λ a. omega (arith, up-behind d k a))
+
+      up-on : (k : ℕ) → k < s .p - 1 → (up d k + skip d k) % s .p ≡ d
+      up-on k lk =
+          by-less k (d + 1)
+          (λ a. ap (λ (x : ℕ). x % s .p) (let z : up d k + skip d k ≡ d = omega (arith, up-before d k a, before d k a) in z) ∙ mod-eq-of-lt (omega arith))
+          (λ a. ap (λ (x : ℕ). x % s .p) (let z : up d k + skip d k ≡ d + s .p = omega (arith, up-behind d k a, behind d k a) in z) ∙ add-mod-right d (s .p) ∙ mod-eq-of-lt (omega arith))
+
+      -- a cell of the diagonal is where the line meets its column
+      meets-up : (x y k : ℕ) → x < s .p - 1 → y < s .p → (x + y) % s .p ≡ d → skip d k ≡ y → k < s .p - 1 → up d k ≡ x
+      meets-up x y k lx ly on e lk = let z = up-low k lk in shift-once (s .p) (up d k) x y (omega arith) (omega arith) (ap (λ (n : ℕ). (up d k + n) % s .p) (sym e) ∙ up-on k lk ∙ sym on)
+
+      -- it would meet column d + 1 in row p - 1
+      misses-up : (x y : ℕ) → x < s .p - 1 → (x + y) % s .p ≡ d → y ≢ d + 1
+      misses-up x y lx on e =
+          let same : x + 1 ≡ 0 = shift-once (s .p) (x + 1) 0 d (omega arith) (omega arith) (ap (λ (n : ℕ). n % s .p) around ∙ on ∙ sym (ap (λ (n : ℕ). n % s .p) none ∙ mod-eq-of-lt (omega arith))) in
+          omega arith
+        where
+          around : x + 1 + d ≡ x + y
+          around = omega arith
+
+          none : 0 + d ≡ d
+          none = omega arith
+
+      -- of the cells that the equation sums its own are those on the diagonal
+      own-is : (q : ℕ) → s .p - 1 ≤ q → q - (s .p - 1) ≡ d → (x y : ℕ) → x < rows s → y < columns s → ownCell s q (cellNumber s x y) ≡ (ltb y (s .p) && eqb ((x + y) % s .p) d)
+      unfolding ownCell takesShared sharesCell shares
+      own-is q past known x y lx ly =
+          ap₂ (λ (a b : Bool). a && not b) (sums-of s w q (evenoddDiagonal (s .p) d) (evenodd-diagonal-is s w is-evenodd q past ∙ ap (evenoddDiagonal (s .p)) known) x y lx) taken
+          ∙ apart (evenoddS (s .p) x y) (ltb y (s .p) && eqb ((x + y) % s .p) d)
+          (λ h k. let ly′ = ltb-true y (s .p) (and-left (ltb y (s .p)) (eqb ((x + y) % s .p) d) k) in
+          let at = eqb-true (x + y) (s .p - 1) (sym (s-test s w is-evenodd x y (omega (arith, level)) ly′) ∙ h) in
+          let on = eqb-true ((x + y) % s .p) d (and-right (ltb y (s .p)) (eqb ((x + y) % s .p) d) k) in
+          let small : (x + y) % s .p ≡ x + y = mod-eq-of-lt (omega (arith, low s w)) in omega arith)
+        where
+          taken : ((eqb (s .code) 4 && leb (rows s) q) && (eqb (s .code) 4 && evenoddS (s .p) (cellNumber s x y % rows s) (cellNumber s x y / rows s))) ≡ evenoddS (s .p) x y
+          taken = rw (eq-eqb (s .code) 4 is-evenodd, le-leb (rows s) q (omega (arith, level)), row-is s w x y lx, column-is s w x y lx) refl
+
+          apart : (a b : Bool) → (a ≡ true → b ≡ true → ⊥) → ((a || b) && not a) ≡ b
+          apart true true n = absurd (n refl refl)
+          apart true false n = refl
+          apart false true n = refl
+          apart false false n = refl
+
+      pub evenodd-diagonal-walks : (q : ℕ) → s .p - 1 ≤ q → q - (s .p - 1) ≡ d → (l : Line) → l .to ≡ callersCell s (parityCell s q) → l .count ≡ s .p - 1 → l .first ≡ d → l .step ≡ s .p - 1 - 1 → l .turn ≡ d + 1
+          → l .second ≡ (d + 2) * (s .p - 1) + (s .p - 1 - 1) → l .extra ≡ 0 → Walks s q l
+      evenodd-diagonal-walks q far known l to count first step turn second extra = record {
+        to = to;
+        own = whole-covers not-rdp″ (ownCell s q) (λ x y. ltb y (s .p) && eqb ((x + y) % s .p) d) (own-is q far known) l extra (skip d) (up d)
+            (λ k lk. (
+              omega (arith, up-low k (omega arith), level),
+              omega (arith, below-p d k (omega arith), evenodd-columns s w is-evenodd),
+              and-both (lt-ltb (skip d k) (s .p) (below-p d k (omega arith))) (eq-eqb ((up d k + skip d k) % s .p) d (up-on k (omega arith))),
+            ))
+            (λ x y lx ly p.
+            let ly′ : y < s .p = ltb-true y (s .p) (and-left (ltb y (s .p)) (eqb ((x + y) % s .p) d) p) in
+            let on : (x + y) % s .p ≡ d = eqb-true ((x + y) % s .p) d (and-right (ltb y (s .p)) (eqb ((x + y) % s .p) d) p) in
+            let found = meets d y (misses-up x y (omega (arith, level)) on) in
+            let lk : found .0 < s .p - 1 = ends (found .0) (found .1) (found .3) ly′ in
+            (found .0, omega arith, meets-up x y (found .0) (omega (arith, level)) ly′ on (found .3) lk, found .3))
+            (λ j k lj lk a b. alone d j k b)
+            (first ∙ (let z : d ≡ 0 * rows s + d = omega (arith, zero-mul (rows s)) in z) ∙ sym (ap₂ (λ (x y : ℕ). x * rows s + y) (before d 0 (omega arith)) (up-before d 0 (omega arith) ∙ (let z : d - 0 ≡ d = omega arith in z))))
+            (λ k lk e. second ∙ ap₂ (λ (x y : ℕ). x * y + (s .p - 1 - 1)) (let z : d + 2 ≡ suc k + 1 = omega arith in z) level
+            ∙ sym (ap₂ (λ (x y : ℕ). x * rows s + y) (behind d (suc k) (omega arith)) (up-behind d (suc k) (omega arith) ∙ (let z : s .p - 1 + d - suc k ≡ s .p - 1 - 1 = omega arith in z))))
+            (λ k lk e. (
+              onward d k (λ z. e (omega arith)),
+              by-less (suc k) (d + 1)
+                  (λ a. omega (arith, up-before d (suc k) a, up-before d k (omega arith), level))
+                  (λ a. omega (arith, up-behind d (suc k) a, up-behind d k (omega arith), level)),
+            ))
+            (omega (arith, low s w)) (omega (arith, high s w)) (omega (arith, high s w)) (omega (arith, evenodd-second-small d ld));
+      }
+        where
+          ends : (k : ℕ) {y : ℕ} → k ≤ y → skip d k ≡ y → y < s .p → k < s .p - 1
+          ends k ky e ly = by-less k (d + 1) (λ a. omega (arith, before d k a)) (λ a. omega (arith, behind d k a))
+
+    -- the line of S
+    shared-is : (x y : ℕ) → x < rows s → y < columns s → sharesCell s (cellNumber s x y) ≡ evenoddS (s .p) x y
+    unfolding sharesCell shares
+    shared-is x y lx ly = rw (eq-eqb (s .code) 4 is-evenodd, row-is s w x y lx, column-is s w x y lx) refl
+
+    pub shared-covers : (l : Line) → l .count ≡ s .p - 1 → l .first ≡ s .p - 1 + (s .p - 1 - 1) → l .step ≡ s .p - 1 - 1 → l .turn ≡ 0 → l .second ≡ 0 → l .extra ≡ 0 → Covers s (sharesCell s) l
+    shared-covers l count first step turn second extra =
+        whole-covers not-rdp″ (sharesCell s) (evenoddS (s .p)) shared-is l extra (λ k. k + 1) (λ k. s .p - 1 - 1 - k)
+        (λ k lk. (
+          omega (arith, level, low s w),
+          omega (arith, evenodd-columns s w is-evenodd),
+          and-both (lt-ltb 0 (k + 1) (omega arith)) (and-both (lt-ltb (k + 1) (s .p) (omega arith)) (eq-eqb (s .p - 1 - 1 - k) (s .p - 1 - (k + 1)) (omega arith))),
+        ))
+        (λ x y lx ly p.
+        let rest = and-right (ltb 0 y) (ltb y (s .p) && eqb x (s .p - 1 - y)) p in
+        let some : 0 < y = ltb-true 0 y (and-left (ltb 0 y) (ltb y (s .p) && eqb x (s .p - 1 - y)) p) in
+        let ly′ : y < s .p = ltb-true y (s .p) (and-left (ltb y (s .p)) (eqb x (s .p - 1 - y)) rest) in
+        let at : x ≡ s .p - 1 - y = eqb-true x (s .p - 1 - y) (and-right (ltb y (s .p)) (eqb x (s .p - 1 - y)) rest) in
+        (y - 1, omega arith, omega arith, omega arith))
+        (λ j k lj lk a b. omega arith)
+        (first ∙ (let z : s .p - 1 + (s .p - 1 - 1) ≡ (0 + 1) * (s .p - 1) + (s .p - 1 - 1 - 0) = omega (arith, one-mul (s .p - 1)) in z) ∙ ap (λ (x : ℕ). (0 + 1) * x + (s .p - 1 - 1 - 0)) level)
+        (λ k lk e. absurd (omega arith))
+        (λ k lk e. (omega arith, omega (arith, level)))
+        (omega (arith, low s w)) (omega (arith, high s w)) (omega (arith, high s w)) (omega arith)

@@ -1,5 +1,5 @@
--- The published equations of the three codes: document 01, "Equations", line by line.
-use mathlib.Core.Bool.{Bool, cond, not, _&&_}
+-- The published equations of the four codes, line by line: document 01, "Equations", and for EVENODD document 02, request 03.
+use mathlib.Core.Bool.{Bool, cond, not, _&&_, _||_}
 use Prim.Native.Nat.{ℕ, _+_, _-_, _%_}
 use lib.Dec.{eqb, ltb}
 use Rattle.codes.specs.declared.Shape.{Shape}
@@ -34,6 +34,19 @@ xcodeFirst p c = record { row = p - 2; column = c; sums = λ k j. ltb k (p - 2) 
 abbrev pub xcodeSecond : ℕ → ℕ → Equation
 xcodeSecond p c = record { row = p - 1; column = c; sums = λ k j. ltb k (p - 2) && eqb j ((p + c - k - 2) % p) }
 
+-- EVENODD, row equation r: (r, p) is the XOR of (r, 0) to (r, p-1)
+abbrev pub evenoddRow : ℕ → ℕ → Equation
+evenoddRow p r = record { row = r; column = p; sums = λ i j. eqb i r && ltb j p }
+
+-- EVENODD, the cells whose XOR is S: (p-1-j, j) for j from 1 to p-1
+abbrev pub evenoddS : ℕ → ℕ → ℕ → Bool
+evenoddS p i j = ltb 0 j && (ltb j p && eqb i (p - 1 - j))
+
+-- EVENODD, diagonal equation d: (d, p+1) is S and the XOR of all data cells (i, j), j from 0 to p-1 and i from 0 to p-2, with i+j = d mod p; those of S
+-- have i+j = p-1, so none counts twice, and there is no row p-1
+abbrev pub evenoddDiagonal : ℕ → ℕ → Equation
+evenoddDiagonal p d = record { row = d; column = p + 1; sums = λ i j. evenoddS p i j || (ltb j p && eqb ((i + j) % p) d) }
+
 -- a code at a prime: the rows and columns of its stripes, and two families of equations, `size` in each
 pub record Code : Type 0 where
   pub rows : ℕ
@@ -54,9 +67,13 @@ hcode p = record { rows = p - 1; columns = p + 1; size = p - 1; first = hcodeRow
 abbrev pub xcode : ℕ → Code
 xcode p = record { rows = p; columns = p; size = p; first = xcodeFirst p; second = xcodeSecond p }
 
--- the code of a stripe: 1 is RDP, 2 is H-Code, 3 is X-Code
+-- EVENODD: p-1 rows, p+2 columns, 2(p-1) equations
+abbrev pub evenodd : ℕ → Code
+evenodd p = record { rows = p - 1; columns = p + 2; size = p - 1; first = evenoddRow p; second = evenoddDiagonal p }
+
+-- the code of a stripe: 1 is RDP, 2 is H-Code, 3 is X-Code, 4 is EVENODD
 abbrev pub codeOf : Shape → Code
-codeOf s = cond (eqb (s .code) 1) (rdp (s .p)) (cond (eqb (s .code) 2) (hcode (s .p)) (xcode (s .p)))
+codeOf s = let p = s .p in cond (eqb (s .code) 1) (rdp p) (cond (eqb (s .code) 2) (hcode p) (cond (eqb (s .code) 3) (xcode p) (evenodd p)))
 
 -- equation q of a stripe: they are numbered from 0, first family first
 unfoldable pub equation : Shape → ℕ → Equation

@@ -1,4 +1,4 @@
--- The shape of a stripe: document 01, "Numbers and the lent stripe", and for RDP with fewer data columns document 02, request 01.
+-- The shape of a stripe: document 01, "Numbers and the lent stripe", for RDP with fewer data columns document 02, request 01, and the fourth code, request 03.
 use mathlib.Core.Path.{_≡_}
 use mathlib.Core.Bool.{Bool, true, false, not, _||_}
 use Prim.Native.Nat.{ℕ, _+_, _-_, _*_, _≤_}
@@ -10,7 +10,7 @@ use Rattle.codes.specs.Equations.{codeOf}
 
 -- codes are numbered from 1 to this
 abbrev pub lastCode : ℕ
-lastCode = 3
+lastCode = 4
 
 -- p is one of the ten primes
 unfoldable pub listed : ℕ → Bool

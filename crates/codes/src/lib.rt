@@ -1,6 +1,6 @@
-// The shape of a stripe, the published equations of RDP, H-Code and X-Code, and the refusals that every call on a stripe shares.
+// The shape of a stripe, the published equations of RDP, H-Code, X-Code and EVENODD, and the refusals that every call on a stripe shares.
 ghost use mathlib.Core.Path.{_≡_};
-ghost use mathlib.Core.Bool.{false, cond};
+ghost use mathlib.Core.Bool.{true, false, cond};
 ghost use lib.Dec.{eqb};
 ghost use Prim.Native.Nat.{ℕ, _+_, _%_, _≤_, _<_};
 ghost use lib.ListN.{length, getD};
@@ -9,10 +9,11 @@ ghost use Rattle.codes.specs.Shape.{listed, rows, columns, cells, equati
 ghost use Rattle.codes.specs.Geometry.{cellAt, callersCell, place};
 ghost use Rattle.codes.specs.Encoded.{parityCell, isParity};
 ghost use Rattle.codes.specs.Refusals.{refusal, codeFaults, sizeFaults, shapeFaults, stripeFaults, writeFaults, cellsFaults, columnsFaults};
-ghost use Rattle.codes.specs.Lines.{Short, Walks, Placed, PlacedAll, Found, Holding};
+ghost use Rattle.codes.specs.Lines.{shares, takesShared, Short, Walks, Placed, PlacedAll, Found, Holding, Sharing};
 ghost use Rattle.codes.specs.Depends.{DataCell, DependOn};
 ghost use Rattle.codes.specs.Holders.{HeldBy, Named};
 
+mod evenodd;
 mod hcode;
 mod layout;
 mod rdp;
@@ -27,13 +28,10 @@ pub use layout::lent_place;
 pub use layout::lies_at;
 pub use layout::place_of;
 
-// Most cells of a stripe.
-pub const CELLS: usize = 961;
-
 // Most bytes in a cell.
-const MOST_CELL: usize = 4096;
+pub const MOST_CELL: usize = 4096;
 
-// Room for the places of an equation's cells.
+// Room for the places of the cells that an equation has by itself.
 pub const PLACES: usize = 32;
 
 // How many data columns a stripe has: as many as its code says, or of RDP's p - 1 only the first m; those after them don't exist.
@@ -42,7 +40,8 @@ pub enum Width {
     Data(usize),
 }
 
-// What describes a stripe: the code (1 RDP, 2 H-Code, 3 X-Code), the prime, the bytes in a cell, and its data columns. Any numbers may stand here.
+// What describes a stripe: the code (1 RDP, 2 H-Code, 3 X-Code, 4 EVENODD), the prime, the bytes in a cell, and its data columns. Any numbers may
+// stand here.
 pub struct Shape {
     pub code: usize,
     pub p: usize,
@@ -63,8 +62,8 @@ struct Extent {
     equations: usize,
 }
 
-// An equation's cells, numbered as they lie: its parity cell `to`, and those whose XOR that is: `count` of them from `first` on, each `step`
-// cells past the one before, but cell `turn`, which is `second`; and the cell `extra`, if that is not 0.
+// An equation's cells, numbered as they lie: its parity cell `to`, and those that it sums by itself: `count` of them from `first` on, each `step`
+// cells past the one before, but cell `turn`, which is `second`; and the cell `extra`, if that is not 0. Shared cells have no parity cell: `to` is 0.
 struct Line {
     to: usize,
     count: usize,
@@ -75,7 +74,7 @@ struct Line {
     extra: usize,
 }
 
-// Where in the stripe's bytes an equation's parity cell starts, and how many cells it is the XOR of.
+// Where in the stripe's bytes an equation's parity cell starts, and how many cells the equation sums by itself.
 pub struct Sources {
     pub to: usize,
     pub count: usize,
@@ -102,6 +101,13 @@ fn extent_of(shape: Shape) -> Extent
             rows: p,
             columns: p,
             equations: 2 * p,
+        };
+    }
+    if shape.code == 4 {
+        return Extent {
+            rows: p - 1,
+            columns: p + 2,
+            equations: 2 * (p - 1),
         };
     }
     Extent {
@@ -187,7 +193,7 @@ pub fn code_refusal(shape: Shape) -> usize
     if shape.code == 0 {
         return 1;
     }
-    if 3 < shape.code {
+    if 4 < shape.code {
         return 1;
     }
     if !is_listed(shape.p) {
@@ -257,6 +263,9 @@ fn line_of(shape: Shape, q: usize) -> Line
     if shape.code == 1 {
         return rdp::line(shape, q);
     }
+    if shape.code == 4 {
+        return evenodd::line(shape, q);
+    }
     hcode::line(shape, q)
 }
 
@@ -305,7 +314,7 @@ fn place_line(shape: Shape, l: Line, places: &mut [usize; PLACES]) -> usize
     count + 1
 }
 
-// Where the parity cell of equation q starts; where the cells start whose XOR it is goes into `places`.
+// Where the parity cell of equation q starts; where the cells start that it sums by itself goes into `places`.
 pub fn sources_of(shape: Shape, q: usize, places: &mut [usize; PLACES]) -> Sources
     requires { ⌜ WellFormed shape × (q < equations shape) × (length (now places) ≡ 32) ⌝ }
     ensures { λ r. ⌜ Found shape q r (now (places .exit)) ⌝ }
@@ -316,7 +325,7 @@ pub fn sources_of(shape: Shape, q: usize, places: &mut [usize; PLACES]) -> Sourc
     Sources { to, count }
 }
 
-// Fills in where all cells of equation q start, those that it sums and then its parity cell, and answers how many they are.
+// Fills in where the cells start that equation q has by itself, those that it sums and then its parity cell, and answers how many they are.
 pub fn cells_of(shape: Shape, q: usize, places: &mut [usize; PLACES]) -> usize
     requires { ⌜ WellFormed shape × (q < equations shape) × (length (now places) ≡ 32) ⌝ }
     ensures { λ r. ⌜ Holding shape q r (now (places .exit)) ⌝ }
@@ -325,6 +334,33 @@ pub fn cells_of(shape: Shape, q: usize, places: &mut [usize; PLACES]) -> usize
     let count = from.count;
     places[count] = from.to;
     count + 1
+}
+
+// Whether one sum of cells is a part of several equations: EVENODD's S is a part of its diagonals.
+pub fn shares(shape: Shape) -> bool
+    ensures { λ r. ⌜ r ≡ shares shape ⌝ }
+{
+    shape.code == 4
+}
+
+// Whether that sum is a part of equation q.
+pub fn takes_shared(shape: Shape, q: usize) -> bool
+    requires { ⌜ WellFormed shape ⌝ }
+    ensures { λ r. ⌜ r ≡ takesShared shape q ⌝ }
+{
+    if !shares(shape) {
+        return false;
+    }
+    row_count(shape) <= q
+}
+
+// Fills in where the cells of that sum start, the shared ones, and answers how many they are.
+pub fn shared_cells(shape: Shape, places: &mut [usize; PLACES]) -> usize
+    requires { ⌜ WellFormed shape × (shares shape ≡ true) × (length (now places) ≡ 32) ⌝ }
+    ensures { λ r. ⌜ Sharing shape r (now (places .exit)) ⌝ }
+{
+    let l = evenodd::shared(shape);
+    place_line(shape, l, places)
 }
 
 // The number of the parity cell of equation q, as cells lie.
@@ -337,6 +373,9 @@ fn parity_number(shape: Shape, q: usize) -> usize
     }
     if shape.code == 1 {
         return rdp::parity(shape, q);
+    }
+    if shape.code == 4 {
+        return evenodd::parity(shape, q);
     }
     hcode::parity(shape, q)
 }
@@ -437,6 +476,9 @@ pub fn is_parity(shape: Shape, row: usize, column: usize) -> bool
     if shape.code == 2 {
         return hcode::is_parity(shape, row, column);
     }
+    if shape.code == 4 {
+        return evenodd::is_parity(shape, row, column);
+    }
     xcode::is_parity(shape, row, column)
 }
 
@@ -467,6 +509,9 @@ pub fn holders_of(shape: Shape, row: usize, column: usize) -> u64
     if shape.code == 2 {
         return hcode::holders(shape, row, column);
     }
+    if shape.code == 4 {
+        return evenodd::holders(shape, row, column);
+    }
     xcode::holders(shape, row, column)
 }
 
@@ -480,6 +525,9 @@ pub fn dependents_of(shape: Shape, row: usize, column: usize) -> u64
     }
     if shape.code == 2 {
         return hcode::dependents(shape, row, column);
+    }
+    if shape.code == 4 {
+        return evenodd::dependents(shape, row, column);
     }
     xcode::dependents(shape, row, column)
 }

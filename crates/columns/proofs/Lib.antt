@@ -4,5 +4,6 @@ pub mod Columns
 pub mod TwoRdp
 pub mod TwoHcode
 pub mod TwoXcode
+pub mod TwoEvenodd
 pub mod TwoColumns
 pub mod Alone

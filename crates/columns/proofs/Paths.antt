@@ -13,20 +13,10 @@ use Rattle.xor.proofs.Cases.{by-test, by-equal, clash}
 use Rattle.xor.proofs.Sets.{any-none}
 use Rattle.codes.specs.Shape.{listed}
 use Rattle.codes.proofs.Shapes.{each-prime}
-use Rattle.codes.proofs.Residues.{there-and-back, turns}
+use Rattle.codes.proofs.Residues.{there-and-back, turns, rest}
+pub use Rattle.codes.proofs.Residues.{shift-once}
 
 -- ---- residues
-
--- a residue with its rest to p
-rest : (p a : ℕ) → 0 < p → a % p + (p - a % p) ≡ p
-rest p a l = omega (arith, mod-lt a l)
-
--- residues that a shift makes equal are equal
-pub shift-once : (p i r a : ℕ) → i < p → r < p → (i + a) % p ≡ (r + a) % p → i ≡ r
-shift-once p i r a li lr e = sym (back i li) ∙ ap (λ (n : ℕ). (n + (p - a % p)) % p) e ∙ back r lr
-  where
-    back : (n : ℕ) → n < p → ((n + a) % p + (p - a % p)) % p ≡ n
-    back n l = ap (λ (k : ℕ). (k + (p - a % p)) % p) (sym (add-mod-mod n a p)) ∙ there-and-back p n (a % p) (p - a % p) l (rest p a (omega arith))
 
 -- a shift by a leads to every residue
 pub shift-from : (p a r : ℕ) → r < p → (i : ℕ) × (i < p) × ((i + a) % p ≡ r)

@@ -1,30 +1,36 @@
--- In all three codes an equation holds at most one cell of a column, and any two columns are determined by the rest; so at most one column can be named bad.
+-- In each code any two columns are determined by the rest; so at most one column can be named bad. The lowest equation that holds a cell has at most one cell in its column.
 use mathlib.Core.Path.{_≡_, sym, _∙_}
 use mathlib.Core.Logic.{_≢_}
-use mathlib.Core.Bool.{true}
+use mathlib.Core.Bool.{false}
 use Prim.Native.Nat.{ℕ, _/_, _<_}
 use native.Mathlib.Omega.{arith}
 use Rattle.xor.proofs.Cases.{by-equal, by-less}
 use Rattle.xor.proofs.Algebra.{⊕-equal, equal-⊕}
 use Rattle.codes.specs.declared.Shape.{Shape}
-use Rattle.codes.specs.Shape.{rows, columns, cells, equations, cellNumber, WellFormed}
+use Rattle.codes.specs.Shape.{rows, columns, cells, equations, WellFormed}
 use Rattle.codes.specs.Encoded.{Solves}
 use Rattle.codes.specs.Holders.{holds}
 use Rattle.codes.proofs.Shapes.{low, few-columns, by-code}
+use Rattle.codes.proofs.Geometry.{column-at}
 use Rattle.codes.proofs.Solutions.{plus, solves-plus, solves-same}
-use Rattle.columns.proofs.Columns.{Meets, OnTwo, meets-only}
+use Rattle.columns.proofs.Columns.{Meets, OnTwo}
 use Rattle.columns.proofs.TwoRdp.{rdp-meets, two-rdp}
 use Rattle.columns.proofs.TwoHcode.{hcode-meets, two-hcode}
 use Rattle.columns.proofs.TwoXcode.{xcode-meets, two-xcode}
+use Rattle.columns.proofs.TwoEvenodd.{evenodd-meets, two-evenodd}
 
 module _ (s : Shape) (w : WellFormed s) where
-  -- every equation and every column meet in one row, or in none
-  all-meet : (q j : ℕ) → q < equations s → j < columns s → (r : ℕ) × Meets s q j r
-  all-meet = by-code s w (rdp-meets s w) (hcode-meets s w) (xcode-meets s w)
+  -- if no equation before q holds cell c, equation q meets the column of c in one row, or in none; in EVENODD a later one need not
+  pub lowest-meets : (q c : ℕ) → q < equations s → c < cells s → ((k : ℕ) → k < q → holds s k c ≡ false) → (r : ℕ) × Meets s q (c / rows s) r
+  lowest-meets = by-code s w (λ is. always (rdp-meets s w is)) (λ is. always (hcode-meets s w is)) (λ is. always (xcode-meets s w is)) (evenodd-meets s w)
+    where
+      always : ((q j : ℕ) → q < equations s → j < columns s → (r : ℕ) × Meets s q j r)
+          → (q c : ℕ) → q < equations s → c < cells s → ((k : ℕ) → k < q → holds s k c ≡ false) → (r : ℕ) × Meets s q (c / rows s) r
+      always all q c lq lc none = all q (c / rows s) lq (column-at s w c lc)
 
   -- in each code
   in-order : (v : ℕ → ℕ) (a b : ℕ) → OnTwo s v a b → a < b → b < columns s → (c : ℕ) → c < cells s → v c ≡ 0
-  in-order = by-code s w (two-rdp s w) (two-hcode s w) (two-xcode s w)
+  in-order = by-code s w (two-rdp s w) (two-hcode s w) (two-xcode s w) (two-evenodd s w)
 
   -- a solution that is 0 off two columns, or off one, is 0 everywhere
   pub two-columns : (v : ℕ → ℕ) → Solves s v → (a b : ℕ) → a < columns s → b < columns s
@@ -59,10 +65,3 @@ module _ (s : Shape) (w : WellFormed s) where
           by-equal (c / rows s) a
           (λ e. two-columns-determined f g hf hg a b la lb (λ d ld n m. fx d ld n ∙ sym (gx d ld m)) c l ∙ gx c l (λ q. ne (sym e ∙ q)))
           (fx c l)
-
--- an equation holds at most one cell of a column
-pub one-in-column : (s : Shape) → WellFormed s → (q : ℕ) → q < equations s → (row row′ column : ℕ) → row < rows s → row′ < rows s → column < columns s
-    → holds s q (cellNumber s row column) ≡ true → holds s q (cellNumber s row′ column) ≡ true → row ≡ row′
-one-in-column s w q lq row row′ column l l′ lc h h′ =
-    let at = all-meet s w q column lq lc in
-    meets-only s w q column (at .0) row (at .1) l h ∙ sym (meets-only s w q column (at .0) row′ (at .1) l′ h′)

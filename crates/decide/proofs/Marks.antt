@@ -16,7 +16,7 @@ use Rattle.xor.proofs.Sets.{any-at, any-some}
 use Rattle.codes.specs.declared.Shape.{Shape}
 use Rattle.codes.specs.Shape.{rows, columns, cells, cellNumber, WellFormed}
 use Rattle.codes.specs.Geometry.{isThere, cellThere, columnOf, cellOf}
-use Rattle.codes.proofs.Shapes.{rows-low, cells-high}
+use Rattle.codes.proofs.Shapes.{mostCells, rows-low, cells-high}
 use Rattle.codes.proofs.Geometry.{is-there, cell-of-there}
 use Rattle.codes.proofs.Positions.{column-is, cell-is, cell-inside, number-is}
 use Rattle.decide.specs.Solver.{lostIn, OnlyThere}
@@ -26,7 +26,7 @@ use Rattle.decide.proofs.Lists.{new-at}
 
 -- the cells marked are those of the first k turns; `marks j c` tells whether turn j marks cell c
 pub record Marked (marks : ℕ → ℕ → Bool) (k : ℕ) (map : List Bool) : Type 0 where
-  pub long : length map ≡ 961
+  pub long : length map ≡ mostCells
   pub is : (c : ℕ) → lostIn map c ≡ any k (λ j. marks j c)
 
 -- a turn marks the cell that the list names there
@@ -47,9 +47,9 @@ mark-at map i c l = by-equal c i
     (λ n. getD-set-other map i c true false n ∙ sym (or-false (lostIn map c)) ∙ ap (_||_ (lostIn map c)) (sym (ne-eqb i c (λ e. n (sym e)))))
 
 module _ (marks : ℕ → ℕ → Bool) where
-  pub marked-none : Marked marks 0 (replicate 961 false)
+  pub marked-none : Marked marks 0 (replicate mostCells false)
   unfolding any
-  marked-none = record { long = length-replicate 961 false; is = λ c. new-at 961 c false }
+  marked-none = record { long = length-replicate mostCells false; is = λ c. new-at mostCells c false }
 
   module _ (k : ℕ) (map : List Bool) (h : Marked marks k map) where
     more : (after : List Bool) → length after ≡ length map → ((c : ℕ) → lostIn after c ≡ (lostIn map c || marks k c)) → Marked marks (k + 1) after
@@ -59,11 +59,11 @@ module _ (marks : ℕ → ℕ → Bool) where
     }
 
     -- a turn that marks one cell
-    pub marked-one : (i : ℕ) → i < 961 → ((c : ℕ) → eqb i c ≡ marks k c) → Marked marks (k + 1) (set map i true)
+    pub marked-one : (i : ℕ) → i < mostCells → ((c : ℕ) → eqb i c ≡ marks k c) → Marked marks (k + 1) (set map i true)
     marked-one i l e = more (set map i true) (length-set map i true) (λ c. mark-at map i c (omega (arith, h .long)) ∙ ap (_||_ (lostIn map c)) (e c))
 
     -- a turn that marks two
-    pub marked-two : (i j : ℕ) → i < 961 → j < 961 → ((c : ℕ) → (eqb i c || eqb j c) ≡ marks k c) → Marked marks (k + 1) (set (set map i true) j true)
+    pub marked-two : (i j : ℕ) → i < mostCells → j < mostCells → ((c : ℕ) → (eqb i c || eqb j c) ≡ marks k c) → Marked marks (k + 1) (set (set map i true) j true)
     marked-two i j li lj e = more (set (set map i true) j true) (length-set (set map i true) j true ∙ length-set map i true)
         (λ c. mark-at (set map i true) j c (omega (arith, length-set map i true, h .long)) ∙ ap (λ (b : Bool). b || eqb j c) (mark-at map i c (omega (arith, h .long)))
         ∙ or-assoc (lostIn map c) (eqb i c) (eqb j c) ∙ ap (_||_ (lostIn map c)) (e c))
@@ -76,7 +76,7 @@ named-all s numbers k map e h c = h .is c ∙ ap (λ (m : ℕ). any m (λ j. ofL
 
 module _ (s : Shape) (w : WellFormed s) (n : ℕ) (rowsAre : n ≡ rows s) where
   -- a cell by its row and column has a place in the map
-  pub in-map : (i j : ℕ) → i < n → j < columns s → j * n + i < 961
+  pub in-map : (i j : ℕ) → i < n → j < columns s → j * n + i < mostCells
   in-map i j li lj = omega (arith, number-is s w i j n rowsAre, cell-inside s w i j (omega arith) lj, cells-high s w)
 
   pub columns-all : (a b k : ℕ) (map : List Bool) → k ≡ n → Marked (ofColumns a b n) k map → (c : ℕ) → c < cells s → lostIn map c ≡ inColumns s a b c

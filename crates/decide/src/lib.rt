@@ -9,6 +9,9 @@ ghost use Rattle.decide.specs.Solver.{lostIn, OnlyThere, Listed, Rows, G
 use codes::Shape;
 use solve::Eliminated;
 
+// Room in a map of lost cells for all cells that a stripe may have.
+pub const MAP: usize = 990;
+
 // What was decided of a set of lost cells: the survivors determine them, and this is how many there are and how many checks the survivors have to
 // pass; or they leave them open.
 pub enum Decided {
@@ -17,11 +20,11 @@ pub enum Decided {
 }
 
 // The map of the cells that a caller's list names.
-pub fn mark_cells(shape: Shape, lost: &[usize]) -> [bool; codes::CELLS]
+pub fn mark_cells(shape: Shape, lost: &[usize]) -> [bool; MAP]
     requires { ⌜ WellFormed shape × ((k : ℕ) → k < length (now lost) → getD (now lost) k 0 < existing shape) ⌝ }
     ensures { λ r. ⌜ ((c : ℕ) → lostIn r c ≡ named shape (now (lost .entry)) c) ⌝ }
 {
-    let mut map = [false; codes::CELLS];
+    let mut map = [false; MAP];
     let mut k = 0;
     while k < lost.len() {
         let c = codes::cell_of(shape, lost[k]);
@@ -32,12 +35,12 @@ pub fn mark_cells(shape: Shape, lost: &[usize]) -> [bool; codes::CELLS]
 }
 
 // The map of the cells in columns a and b, as the equations number them.
-pub fn mark_columns(shape: Shape, a: usize, b: usize) -> [bool; codes::CELLS]
+pub fn mark_columns(shape: Shape, a: usize, b: usize) -> [bool; MAP]
     requires { ⌜ WellFormed shape × (a < columns shape) × (b < columns shape) ⌝ }
     ensures { λ r. ⌜ ((c : ℕ) → c < cells shape → lostIn r c ≡ inColumns shape a b c) ⌝ }
 {
     let n = codes::row_count(shape);
-    let mut map = [false; codes::CELLS];
+    let mut map = [false; MAP];
     let mut i = 0;
     while i < n {
         map[a * n + i] = true;
@@ -48,7 +51,7 @@ pub fn mark_columns(shape: Shape, a: usize, b: usize) -> [bool; codes::CELLS]
 }
 
 // Lists the lost cells by rising number. Answers how many there are, or one more than there are equations where there are more than these.
-fn list_lost(shape: Shape, map: [bool; codes::CELLS], listed: &mut [usize; bits::ROOM]) -> usize
+fn list_lost(shape: Shape, map: [bool; MAP], listed: &mut [usize; bits::ROOM]) -> usize
     requires { ⌜ WellFormed shape × (length (now listed) ≡ 64) ⌝ }
     ensures { λ r. ⌜ Listed shape map r (now (listed .exit)) ⌝ }
 {
@@ -108,7 +111,7 @@ fn gather(
 // equations that gives it, and the sets that check the survivors.
 pub fn decide(
     shape: Shape,
-    map: [bool; codes::CELLS],
+    map: [bool; MAP],
     listed: &mut [usize; bits::ROOM],
     sets: &mut [u64; bits::ROOM],
     checks: &mut [u64; bits::ROOM],

@@ -1,7 +1,7 @@
 -- From runs of bytes to cells: what the XOR of the runs of an equation's cells says of the equation in a window.
 use mathlib.Core.Path.{_≡_, refl, sym, ap, ap₂, _∙_, subst}
 use mathlib.Core.Logic.{_≢_, _⊎_, inl, inr, ⊎-elim}
-use mathlib.Core.List.{List}
+use mathlib.Core.List.{List, [], _∷_}
 use mathlib.Core.Bool.{Bool, true, false, not, _||_}
 use Prim.Native.Nat.{ℕ, zero, suc, _+_, _≤_, _<_}
 use native.Mathlib.Nat.{add-assoc, zero-add}
@@ -9,21 +9,22 @@ use native.Mathlib.Omega.{arith}
 use lib.Dec.{eqb}
 use lib.ListN.{length, getD, take}
 use borrow.Author.Tests.{eq-eqb, ne-eqb, eqb-true, not-false}
-use Rattle.xor.specs.Xor.{_⊕_}
+use Rattle.xor.specs.Xor.{_⊕_, xors}
 use Rattle.xor.specs.Sets.{any}
-use Rattle.xor.specs.Runs.{sumAt, withOwn, Inside, Apart, Put, Says, NonzeroAt}
+use Rattle.xor.specs.Runs.{sumAt, withOwn, addedTo, Inside, Apart, Put, Says, NonzeroAt}
 use Rattle.xor.proofs.Cases.{by-test, by-equal, by-less, clash}
-use Rattle.xor.proofs.Algebra.{⊕-equal, equal-⊕}
+use Rattle.xor.proofs.Algebra.{zero-⊕, ⊕-comm, ⊕-equal, equal-⊕}
 use Rattle.xor.proofs.Runs.{first-long, first-at, first-inside, first-sum, says-zero, put-same, nonzero-same}
 use Rattle.xor.proofs.Sets.{none-any, any-none}
 use Rattle.codes.specs.declared.Shape.{Shape}
 use Rattle.codes.specs.declared.Sources.{Sources}
 use Rattle.codes.specs.Shape.{cells, equations, stripeLength, WellFormed}
 use Rattle.codes.specs.Geometry.{place}
-use Rattle.codes.specs.Encoded.{parityCell, byteAt, parityByte, total, fails}
-use Rattle.codes.specs.Lines.{Found, Holding}
+use Rattle.codes.specs.Encoded.{parityCell, byteAt, parityByte, total, fails, isParity}
+use Rattle.codes.specs.Lines.{shares, takesShared, ownCell, sumWhere, sharedSum, ownTotal, Listing, Found}
 use Rattle.codes.proofs.Geometry.{place-apart, parity-there, byte-there, byte-same}
-use Rattle.equation.specs.Window.{bytesAt, Window, ParitySet, failsIn}
+use Rattle.codes.proofs.Shared.{takes-shares, own-all, own-total, own-shared, shared-total, shared-same}
+use Rattle.equation.specs.Window.{bytesAt, Window, Shares, ParityPut, ParitySet, failsIn}
 
 -- ---- an equation fails, or it holds
 
@@ -46,83 +47,178 @@ module _ (s : Shape) (stripe : List ℕ) (q at n : ℕ) where
   fails-says true test = sym (holds-everywhere (test .yes refl))
   fails-says false test = sym (by-test (failsIn s stripe q at n) (λ p. p) (λ p. absurd (test .no refl (not-failing p))))
 
--- ---- the places that are passed on: those of the cells that the equation sums
+-- ---- places that are listed, and passed on as the first of a list
 
-abbrev used : Sources → List ℕ → List ℕ
-used r places = take (r .count) places
-
-module _ (s : Shape) (stripe : List ℕ) (at n : ℕ) (w : Window s stripe at n) (q : ℕ) (r : Sources) (places : List ℕ) (h : Found s q r places) where
-  few : r .count ≤ length places
+module _ (s : Shape) (stripe : List ℕ) (at n : ℕ) (w : Window s stripe at n) (sum : (ℕ → ℕ) → ℕ) (m : ℕ) (places : List ℕ) (h : Listing s sum m places) where
+  few : m ≤ length places
   few = omega (arith, h .few, h .long)
 
-  pub used-long : length (used r places) ≡ r .count
-  used-long = first-long places (r .count) few
+  pub listed-long : length (take m places) ≡ m
+  listed-long = first-long places m few
 
-  -- they lie inside the stripe, and apart from the parity cell
-  pub used-inside : Inside (length stripe) (used r places) (at + n)
-  used-inside = first-inside places (r .count) few (length stripe) (at + n) (λ k l. omega (arith, h .inside k l, w .long, w .ends))
+  -- they lie inside the stripe
+  pub listed-inside : Inside (length stripe) (take m places) (at + n)
+  listed-inside = first-inside places m few (length stripe) (at + n) (λ k l. omega (arith, h .inside k l, w .long, w .ends))
 
-  pub used-apart : Apart (used r places) (r .to) (at + n)
+  -- the XOR of their runs is the sum
+  pub listed-sum : (bytes : List ℕ) (t : ℕ) → sumAt bytes (take m places) t ≡ sum (bytesAt s bytes t)
+  listed-sum bytes t = first-sum places m few bytes t ∙ h .is bytes t
+
+  pub listed-added : (into into′ : List ℕ) (to : ℕ) → Put into to n (addedTo into to stripe (take m places) at) into′ → Put into to n (λ i. getD into (to + i) 0 ⊕ sum (bytesAt s stripe (at + i))) into′
+  unfolding addedTo
+  listed-added into into′ to put =
+      put-same into into′ to n (addedTo into to stripe (take m places) at) (λ i. getD into (to + i) 0 ⊕ sum (bytesAt s stripe (at + i))) put (λ i l. ap (λ (x : ℕ). getD into (to + i) 0 ⊕ x) (listed-sum stripe (at + i)))
+
+  pub listed-put : (into into′ : List ℕ) (to : ℕ) → Put into to n (λ t. sumAt stripe (take m places) (at + t)) into′ → Put into to n (λ i. sum (bytesAt s stripe (at + i))) into′
+  listed-put into into′ to put =
+      put-same into into′ to n (λ t. sumAt stripe (take m places) (at + t)) (λ i. sum (bytesAt s stripe (at + i))) put (λ i l. listed-sum stripe (at + i))
+
+-- ---- one run, at the first place
+
+module _ (bytes : List ℕ) where
+  pub one-inside : (n : ℕ) → n ≤ length bytes → Inside (length bytes) (0 ∷ []) (0 + n)
+  one-inside n l = record { ends = λ k lk. at-first k lk }
+    where
+      at-first : (k : ℕ) → k < 1 → getD (0 ∷ []) k 0 + (0 + n) ≤ length bytes
+      at-first zero lk = omega arith
+      at-first (suc k) lk = absurd (omega arith)
+
+  pub one-sum : (t : ℕ) → sumAt bytes (0 ∷ []) (0 + t) ≡ getD bytes t 0
+  unfolding sumAt xors
+  one-sum t = zero-⊕ (getD bytes (0 + (0 + t)) 0) ∙ ap (λ (i : ℕ). getD bytes i 0) (let z : 0 + (0 + t) ≡ t = omega arith in z)
+
+  pub one-added : (into into′ : List ℕ) (to n : ℕ) → Put into to n (addedTo into to bytes (0 ∷ []) 0) into′ → Put into to n (λ i. getD into (to + i) 0 ⊕ getD bytes i 0) into′
+  unfolding addedTo
+  one-added into into′ to n put =
+      put-same into into′ to n (addedTo into to bytes (0 ∷ []) 0) (λ i. getD into (to + i) 0 ⊕ getD bytes i 0) put (λ i l. ap (λ (x : ℕ). getD into (to + i) 0 ⊕ x) (one-sum i))
+
+-- ---- the parity cell of an equation in a window
+
+module _ (s : Shape) (stripe : List ℕ) (at n : ℕ) (w : Window s stripe at n) (q : ℕ) (lq : q < equations s) (to : ℕ) (is : to ≡ place s (parityCell s q)) where
+  own-byte : (bytes : List ℕ) (t : ℕ) → byteAt s bytes (parityCell s q) t ≡ getD bytes (to + t) 0
+  own-byte bytes t = byte-there s (w .formed) bytes (parityCell s q) t (parity-there s (w .formed) q lq) ∙ ap (λ (x : ℕ). getD bytes (x + t) 0) (sym is)
+
+  -- values that are put there are put into no other cell
+  parity-put : (f : ℕ → ℕ) (new : List ℕ) → Put stripe (to + at) n f new → ParityPut s q at n f stripe new
+  parity-put f new put = record {
+    long = put .long;
+    own = λ i l. own-byte new (at + i) ∙ ap (λ (x : ℕ). getD new x 0) (sym (add-assoc to at i)) ∙ put .inner i l;
+    others = λ c lc t l off. byte-same s (w .formed) new stripe c t (λ there. put .outer (place s c + t) (by-equal c (parityCell s q)
+        (λ e. let same : place s c ≡ to = ap (place s) e ∙ sym is in
+        by-less t at (λ lo. inl (omega (arith, same))) (λ lo. by-less t (at + n) (λ hi. absurd (off e lo hi)) (λ hi. inr (omega (arith, same)))))
+        (λ e. ⊎-elim (λ side. inl (omega (arith, is))) (λ side. inr (omega (arith, is, w .ends))) (place-apart s (w .formed) c (parityCell s q) there (parity-there s (w .formed) q lq) e))));
+  }
+
+  -- bytes that are XORed in there
+  pub parity-more : (value : ℕ → ℕ) (old : List ℕ) (x : ℕ → ℕ) (new : List ℕ) → ParityPut s q at n value old stripe → Put stripe (to + at) n (λ i. getD stripe (to + at + i) 0 ⊕ x i) new → ParityPut s q at n (λ i. value i ⊕ x i) old new
+  parity-more value old x new before put =
+      let after = parity-put (λ i. getD stripe (to + at + i) 0 ⊕ x i) new put in
+      record {
+        long = after .long ∙ before .long;
+        own = λ i l. after .own i l ∙ ap (λ (y : ℕ). y ⊕ x i) (ap (λ (k : ℕ). getD stripe k 0) (add-assoc to at i) ∙ sym (own-byte stripe (at + i)) ∙ before .own i l);
+        others = λ c lc t l off. after .others c lc t l off ∙ before .others c lc t l off;
+      }
+
+-- ---- the cells that an equation sums by itself
+
+module _ (s : Shape) (stripe : List ℕ) (at n : ℕ) (w : Window s stripe at n) (q : ℕ) (r : Sources) (places : List ℕ) (h : Found s q r places) where
+  -- they lie apart from the parity cell
+  pub used-apart : Apart (take (r .count) places) (r .to) (at + n)
   used-apart = record {
-    side = λ k l. subst (λ (x : ℕ). (x + (at + n) ≤ r .to) ⊎ (r .to + (at + n) ≤ x)) (sym (first-at places (r .count) few k l))
-        (⊎-elim (λ z. inl (omega (arith, w .ends))) (λ z. inr (omega (arith, w .ends))) (h .apart k (omega (arith, used-long))));
+    side = λ k l. subst (λ (x : ℕ). (x + (at + n) ≤ r .to) ⊎ (r .to + (at + n) ≤ x)) (sym (first-at places (r .count) (omega (arith, h .few, h .listed .long)) k l))
+        (⊎-elim (λ z. inl (omega (arith, w .ends))) (λ z. inr (omega (arith, w .ends))) (h .apart k (omega (arith, listed-long s stripe at n w (sumWhere s (ownCell s q)) (r .count) places (h .listed)))));
   }
 
   pub parity-ends : r .to + at + n ≤ length stripe
   parity-ends = omega (arith, h .ends, w .long, w .ends)
 
-  -- the XOR of their runs is the parity byte
-  used-sum : (bytes : List ℕ) (t : ℕ) → sumAt bytes (used r places) t ≡ parityByte s bytes q t
-  used-sum bytes t = first-sum places (r .count) few bytes t ∙ h .sum bytes t
+  -- byte t of the sum
+  used-sum : (bytes : List ℕ) (t : ℕ) → sumAt bytes (take (r .count) places) t ≡ sumWhere s (ownCell s q) (bytesAt s bytes t)
+  used-sum = listed-sum s stripe at n w (sumWhere s (ownCell s q)) (r .count) places (h .listed)
 
-  -- byte t of the parity cell
-  own-byte : q < equations s → (bytes : List ℕ) (t : ℕ) → byteAt s bytes (parityCell s q) t ≡ getD bytes (r .to + t) 0
-  own-byte lq bytes t = byte-there s (w .formed) bytes (parityCell s q) t (parity-there s (w .formed) q lq) ∙ ap (λ (x : ℕ). getD bytes (x + t) 0) (sym (h .to))
+  module _ (lq : q < equations s) where
+    pub own-set : (new : List ℕ) → Put stripe (r .to + at) n (λ t. sumAt stripe (take (r .count) places) (at + t)) new → ParityPut s q at n (λ i. sumWhere s (ownCell s q) (bytesAt s stripe (at + i))) stripe new
+    own-set new put = parity-put s stripe at n w q lq (r .to) (h .to) (λ i. sumWhere s (ownCell s q) (bytesAt s stripe (at + i))) new (listed-put s stripe at n w (sumWhere s (ownCell s q)) (r .count) places (h .listed) stripe new (r .to + at) put)
 
-  pub parity-set : q < equations s → (new : List ℕ) → Put stripe (r .to + at) n (λ t. sumAt stripe (used r places) (at + t)) new → ParitySet s q at n stripe new
-  parity-set lq new put = record {
-    long = put .long;
-    own = λ i l. own-byte lq new (at + i) ∙ ap (λ (x : ℕ). getD new x 0) (sym (add-assoc (r .to) at i)) ∙ put .inner i l ∙ used-sum stripe (at + i);
-    others = λ c lc t l off. byte-same s (w .formed) new stripe c t (λ there. put .outer (place s c + t) (by-equal c (parityCell s q)
-        (λ e. let same : place s c ≡ r .to = ap (place s) e ∙ sym (h .to) in
-        by-less t at (λ lo. inl (omega (arith, same))) (λ lo. by-less t (at + n) (λ hi. absurd (off e lo hi)) (λ hi. inr (omega (arith, same)))))
-        (λ e. ⊎-elim (λ side. inl (omega (arith, h .to))) (λ side. inr (omega (arith, h .to, w .ends))) (place-apart s (w .formed) c (parityCell s q) there (parity-there s (w .formed) q lq) e))));
+    -- the run at the parity cell and those of the equation's own cells sum to what it has by itself
+    own-with : (t : ℕ) → withOwn stripe (take (r .count) places) (r .to) t ≡ ownTotal s q (bytesAt s stripe t)
+    unfolding withOwn
+    own-with t = ap₂ _⊕_ (sym (own-byte s stripe at n w q lq (r .to) (h .to) stripe t)) (used-sum stripe t)
+
+    -- the equation fails where that is not zero, or not what is shared
+    pub fails-own : takesShared s q ≡ false → (b : Bool) → Says ((t : ℕ) → t < n → withOwn stripe (take (r .count) places) (r .to) (at + t) ≡ 0) b → not b ≡ failsIn s stripe q at n
+    fails-own plain b test =
+        fails-says s stripe q at n b
+        (says-zero n (λ t. withOwn stripe (take (r .count) places) (r .to) (at + t)) (λ t. total s q (bytesAt s stripe (at + t))) b (λ t l. own-with (at + t) ∙ own-total s q plain (bytesAt s stripe (at + t))) test)
+
+    pub fails-shared : takesShared s q ≡ true → (shared : List ℕ) → Shares s stripe at n shared → (b : Bool) → Says ((t : ℕ) → t < n → withOwn stripe (take (r .count) places) (r .to) (at + t) ⊕ getD shared t 0 ≡ 0) b → not b ≡ failsIn s stripe q at n
+    fails-shared takes shared part b test =
+        fails-says s stripe q at n b
+        (says-zero n (λ t. withOwn stripe (take (r .count) places) (r .to) (at + t) ⊕ getD shared t 0) (λ t. total s q (bytesAt s stripe (at + t))) b
+        (λ t l. ap₂ _⊕_ (own-with (at + t)) (part .is (takes-shares s q takes) t l) ∙ shared-total s (w .formed) q takes (bytesAt s stripe (at + t))) test)
+
+-- ---- with what is shared
+
+module _ (s : Shape) (stripe : List ℕ) (at n : ℕ) where
+  -- where nothing is shared anything will do
+  pub unshared : shares s ≡ false → (shared : List ℕ) → Shares s stripe at n shared
+  unshared h shared = record { long = λ k. clash k h; is = λ k. clash k h }
+
+  -- as it is put
+  pub shared-put : (old new : List ℕ) → n ≤ length old → Put old 0 n (λ i. sharedSum s (bytesAt s stripe (at + i))) new → Shares s stripe at n new
+  shared-put old new long put = record { long = λ k. omega (arith, put .long); is = λ k i l. ap (λ (j : ℕ). getD new j 0) (sym (zero-add i)) ∙ put .inner i l }
+
+  -- it stays as long as data stays
+  pub shared-stays : WellFormed s → (new shared : List ℕ) → ((c : ℕ) → c < cells s → isParity s c ≡ false → (i : ℕ) → i < n → byteAt s stripe c (at + i) ≡ byteAt s new c (at + i)) → Shares s stripe at n shared → Shares s new at n shared
+  shared-stays w new shared same h = record {
+    long = h .long;
+    is = λ k i l. h .is k i l ∙ shared-same s w (bytesAt s stripe (at + i)) (bytesAt s new (at + i)) (λ c lc p. same c lc p i l);
   }
 
-  -- equation q fails where the run at its parity cell is not the sum
-  pub fails-used : q < equations s → (b : Bool) → Says ((t : ℕ) → t < n → withOwn stripe (used r places) (r .to) (at + t) ≡ 0) b → not b ≡ failsIn s stripe q at n
-  unfolding withOwn total
-  fails-used lq b test =
-      fails-says s stripe q at n b
-      (says-zero n (λ t. withOwn stripe (used r places) (r .to) (at + t)) (λ t. total s q (bytesAt s stripe (at + t))) b
-      (λ t l. ap₂ _⊕_ (sym (own-byte lq stripe (at + t))) (used-sum stripe (at + t))) test)
+  module _ (w : WellFormed s) (q : ℕ) where
+    pub set-plain : takesShared s q ≡ false → (new : List ℕ) → ParityPut s q at n (λ i. sumWhere s (ownCell s q) (bytesAt s stripe (at + i))) stripe new → ParitySet s q at n stripe new
+    set-plain plain new put = record { long = put .long; own = λ i l. put .own i l ∙ own-all s q plain (bytesAt s stripe (at + i)); others = put .others }
 
--- ---- the places of all cells of the equation, its parity cell too
+    pub set-shared : takesShared s q ≡ true → (shared : List ℕ) → Shares s stripe at n shared → (new : List ℕ)
+        → ParityPut s q at n (λ i. sumWhere s (ownCell s q) (bytesAt s stripe (at + i)) ⊕ getD shared i 0) stripe new → ParitySet s q at n stripe new
+    set-shared takes shared part new put = record {
+      long = put .long;
+      own = λ i l. put .own i l ∙ ap (λ (x : ℕ). sumWhere s (ownCell s q) (bytesAt s stripe (at + i)) ⊕ x) (part .is (takes-shares s q takes) i l) ∙ own-shared s w q takes (bytesAt s stripe (at + i));
+      others = put .others;
+    }
 
-module _ (s : Shape) (stripe : List ℕ) (at n : ℕ) (w : Window s stripe at n) (q m : ℕ) (places : List ℕ) (h : Holding s q m places) where
-  few-held : m ≤ length places
-  few-held = omega (arith, h .few, h .long)
+    pub total-plain : takesShared s q ≡ false → (into into′ : List ℕ) (to : ℕ) → Put into to n (λ i. ownTotal s q (bytesAt s stripe (at + i))) into′ → Put into to n (λ i. total s q (bytesAt s stripe (at + i))) into′
+    total-plain plain into into′ to put =
+        put-same into into′ to n (λ i. ownTotal s q (bytesAt s stripe (at + i))) (λ i. total s q (bytesAt s stripe (at + i))) put (λ i l. own-total s q plain (bytesAt s stripe (at + i)))
 
-  pub held-long : length (take m places) ≡ m
-  held-long = first-long places m few-held
+    pub total-shared : takesShared s q ≡ true → (shared : List ℕ) → Shares s stripe at n shared → (into mid into′ : List ℕ) (to : ℕ) → Put into to n (λ i. ownTotal s q (bytesAt s stripe (at + i))) mid
+        → Put mid to n (λ i. getD mid (to + i) 0 ⊕ getD shared i 0) into′ → Put into to n (λ i. total s q (bytesAt s stripe (at + i))) into′
+    total-shared takes shared part into mid into′ to one two = record {
+      long = two .long ∙ one .long;
+      inner = λ i l. two .inner i l ∙ ap₂ _⊕_ (one .inner i l) (part .is (takes-shares s q takes) i l) ∙ shared-total s w q takes (bytesAt s stripe (at + i));
+      outer = λ i side. two .outer i side ∙ one .outer i side;
+    }
 
-  pub held-inside : Inside (length stripe) (take m places) (at + n)
-  held-inside = first-inside places m few-held (length stripe) (at + n) (λ k l. omega (arith, h .inside k l, w .long, w .ends))
+-- the first byte that is not zero is there where the equation fails
+pub failing-at : (s : Shape) (stripe : List ℕ) (q at n : ℕ) (f : ℕ → ℕ) → ((i : ℕ) → i < n → f i ≡ total s q (bytesAt s stripe (at + i))) → (r : ℕ) → failsIn s stripe q at n ≡ true → NonzeroAt f n r
+    → (r < n) × (total s q (bytesAt s stripe (at + r)) ≢ 0)
+failing-at s stripe q at n f is r p found =
+    let z = nonzero-same n r f (λ i. total s q (bytesAt s stripe (at + i))) is found in
+    let l : r < n = by-less r n (λ l. l) (λ l. clash p (holds-everywhere s stripe q at n (z .none l))) in
+    (l, z .some l)
 
-  -- the XOR of the runs of all the equation's cells is its total
-  pub held-sum : (t : ℕ) → sumAt stripe (take m places) t ≡ total s q (bytesAt s stripe t)
-  held-sum t = first-sum places m few-held stripe t ∙ h .sum stripe t
+-- the same of a buffer with what is shared, into which the equation's own cells are added
+module _ (s : Shape) (stripe : List ℕ) (q at n : ℕ) (w : WellFormed s) (takes : takesShared s q ≡ true) (shared sum : List ℕ) (part : Shares s stripe at n shared)
+    (put : Put shared 0 n (λ i. getD shared (0 + i) 0 ⊕ ownTotal s q (bytesAt s stripe (at + i))) sum) where
+  pub buffer-inside : Inside (length sum) (0 ∷ []) (0 + n)
+  buffer-inside = one-inside sum n (omega (arith, put .long, part .long (takes-shares s q takes)))
 
-  pub total-put : (into into′ : List ℕ) (to : ℕ) → Put into to n (λ t. sumAt stripe (take m places) (at + t)) into′ → Put into to n (λ i. total s q (bytesAt s stripe (at + i))) into′
-  total-put into into′ to put =
-      put-same into into′ to n (λ t. sumAt stripe (take m places) (at + t)) (λ i. total s q (bytesAt s stripe (at + i))) put (λ i l. held-sum (at + i))
-
-  -- the first byte that is not zero is there where the equation fails
-  pub failing-at : (r : ℕ) → failsIn s stripe q at n ≡ true → NonzeroAt (λ t. sumAt stripe (take m places) (at + t)) n r → (r < n) × (total s q (bytesAt s stripe (at + r)) ≢ 0)
-  failing-at r p found =
-      let z = nonzero-same n r (λ t. sumAt stripe (take m places) (at + t)) (λ i. total s q (bytesAt s stripe (at + i))) (λ i l. held-sum (at + i)) found in
-      let l : r < n = by-less r n (λ l. l) (λ l. clash p (holds-everywhere s stripe q at n (z .none l))) in
-      (l, z .some l)
+  pub buffer-failing : (r : ℕ) → failsIn s stripe q at n ≡ true → NonzeroAt (λ t. sumAt sum (0 ∷ []) (0 + t)) n r → (r < n) × (total s q (bytesAt s stripe (at + r)) ≢ 0)
+  buffer-failing =
+      failing-at s stripe q at n (λ t. sumAt sum (0 ∷ []) (0 + t))
+      (λ i l. one-sum sum i ∙ ap (λ (k : ℕ). getD sum k 0) (sym (zero-add i)) ∙ put .inner i l
+      ∙ ap (λ (x : ℕ). x ⊕ ownTotal s q (bytesAt s stripe (at + i))) (ap (λ (k : ℕ). getD shared k 0) (zero-add i) ∙ part .is (takes-shares s q takes) i l)
+      ∙ ⊕-comm (sharedSum s (bytesAt s stripe (at + i))) (ownTotal s q (bytesAt s stripe (at + i))) ∙ shared-total s w q takes (bytesAt s stripe (at + i)))
 
 -- ---- the whole cell
 
@@ -144,3 +240,7 @@ fails-whole s stripe q =
 -- a window of whole cells
 pub whole : (s : Shape) (stripe : List ℕ) → WellFormed s → length stripe ≡ stripeLength s → Window s stripe 0 (s .cell)
 whole s stripe formed long = record { formed = formed; long = long; ends = omega arith }
+
+-- a stripe of the same length has the same windows
+pub kept-window : (s : Shape) (stripe new : List ℕ) (at n : ℕ) → Window s stripe at n → length new ≡ length stripe → Window s new at n
+kept-window s stripe new at n w e = record { formed = w .formed; long = e ∙ w .long; ends = w .ends }

@@ -77,7 +77,7 @@ module _ (j : Job) (fits : Fits j) where
         across = omega (arith, few-columns (shapeOf j) w, disks-is (shapeOf j) w, full-missing (shapeOf j) refl)
 
         down : 6 ≤ rows (shapeOf j)
-        down = let tall : j .p - 1 ≤ rows (shapeOf j) = of-code (λ c. j .p - 1 ≤ c .rows) (shapeOf j) w (omega arith) (omega arith) (omega arith) in omega arith
+        down = let tall : j .p - 1 ≤ rows (shapeOf j) = of-code (λ c. j .p - 1 ≤ c .rows) (shapeOf j) w (omega arith) (omega arith) (omega arith) (omega arith) in omega arith
 
         whole : existing (shapeOf j) * absentCell ≡ stripeLength (shapeOf j)
         whole = ap (λ (n : ℕ). existing (shapeOf j) * n) (sym size) ∙ length-of (shapeOf j) (existing (shapeOf j)) refl

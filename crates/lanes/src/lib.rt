@@ -8,7 +8,7 @@ ghost use Rattle.xor.specs.Xor.{_⊕_};
 ghost use Rattle.xor.specs.Runs.{Put, Says};
 ghost use Rattle.bits.specs.Bit.{bit, Union};
 ghost use Rattle.codes.specs.Shape.{equations, stripeLength, WellFormed};
-ghost use Rattle.equation.specs.Window.{Window};
+ghost use Rattle.equation.specs.Window.{Window, Shares};
 ghost use Rattle.decide.specs.Solver.{Sets};
 ghost use Rattle.lanes.specs.Lanes.{lane, room, laneSum, InLane, Totals, Passes, CellsIn, LanesOf, Filled, Mends};
 use codes::Shape;
@@ -19,9 +19,18 @@ const LANE: usize = 512;
 // Bytes in the lanes of all equations that there may be.
 pub const LANES: usize = 32768;
 
-// Sets n bytes of the lane of each equation in a set to its total, from byte `at` of each cell on.
-fn put_totals(shape: Shape, stripe: &[u8], set: u64, at: usize, n: usize, lanes: &mut [u8])
-    requires { ⌜ InLane shape (now stripe) at n (now lanes) × ((r : ℕ) → bit r set ≡ true → r < equations shape) ⌝ }
+// Sets n bytes of the lane of each equation in a set to its total, from byte `at` of each cell on, with what is shared.
+fn put_totals_with(
+    shape: Shape,
+    stripe: &[u8],
+    set: u64,
+    at: usize,
+    n: usize,
+    shared: &[u8],
+    lanes: &mut [u8],
+)
+    requires { ⌜ InLane shape (now stripe) at n (now lanes) × ((r : ℕ) → bit r set ≡ true → r < equations shape)
+        × Shares shape (now stripe) at n (now shared) ⌝ }
     ensures { λ _. ⌜ Totals shape (now (stripe .entry)) set at n (now (lanes .exit)) ⌝ }
 {
     let mut members = [0usize; bits::ROOM];
@@ -29,9 +38,19 @@ fn put_totals(shape: Shape, stripe: &[u8], set: u64, at: usize, n: usize, lanes:
     let mut k = 0;
     while k < count {
         let q = members[k];
-        equation::put_total(shape, stripe, q, at, n, lanes, q * LANE);
+        equation::put_total(shape, stripe, q, at, n, shared, lanes, q * LANE);
         k += 1;
     }
+}
+
+// Sets n bytes of the lane of each equation in a set to its total, from byte `at` of each cell on.
+fn put_totals(shape: Shape, stripe: &[u8], set: u64, at: usize, n: usize, lanes: &mut [u8])
+    requires { ⌜ InLane shape (now stripe) at n (now lanes) × ((r : ℕ) → bit r set ≡ true → r < equations shape) ⌝ }
+    ensures { λ _. ⌜ Totals shape (now (stripe .entry)) set at n (now (lanes .exit)) ⌝ }
+{
+    let mut shared = [0u8; LANE];
+    equation::put_shared(shape, stripe, at, n, &mut shared);
+    put_totals_with(shape, stripe, set, at, n, &shared, lanes);
 }
 
 // Whether the lanes of a set sum to zero in n bytes.

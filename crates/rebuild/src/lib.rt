@@ -22,7 +22,7 @@ fn clean_or_not(shape: Shape, stripe: &[u8]) -> usize
 }
 
 // Rebuilds the lost cells of a map: 0; or 11 where they are undetermined, or 12 where no encoded stripe agrees with the survivors.
-fn rebuild_lost(shape: Shape, stripe: &mut [u8], map: [bool; codes::CELLS]) -> usize
+fn rebuild_lost(shape: Shape, stripe: &mut [u8], map: [bool; decide::MAP]) -> usize
     requires { ⌜ WellFormed shape × (length (now stripe) ≡ stripeLength shape) × OnlyThere shape (lostIn map) ⌝ }
     ensures { λ r. ⌜ Decides shape (lostIn map) (now (stripe .entry)) r (now (stripe .exit)) ⌝ }
 {
@@ -40,7 +40,7 @@ fn rebuild_lost(shape: Shape, stripe: &mut [u8], map: [bool; codes::CELLS]) -> u
 }
 
 // Rebuild cells: the cells that the list names come back as the encoded stripe that agrees with all the others has them.
-// Answers 0, or refusal 1, 2, 4, 5, 6, 11 (undetermined) or 12 (survivors disagree), with every byte as it was.
+// Answers 0, or refusal 1, 2, 14, 4, 5, 6, 11 (undetermined) or 12 (survivors disagree), with every byte as it was.
 pub fn cells(shape: Shape, stripe: &mut [u8], lost: &[usize]) -> usize
     ensures { λ r. ⌜ RebuildsCells shape (now (lost .entry)) (now (stripe .entry)) r (now (stripe .exit)) ⌝ }
 {
@@ -52,7 +52,7 @@ pub fn cells(shape: Shape, stripe: &mut [u8], lost: &[usize]) -> usize
     rebuild_lost(shape, stripe, map)
 }
 
-// Rebuild columns: all cells of columns a and b, which may be one and the same. Answers 0, or refusal 1, 2, 4, 5, 6 or 12: two columns
+// Rebuild columns: all cells of columns a and b, which may be one and the same. Answers 0, or refusal 1, 2, 14, 4, 5, 6 or 12: two columns
 // are never undetermined.
 pub fn columns(shape: Shape, stripe: &mut [u8], a: usize, b: usize) -> usize
     ensures { λ r. ⌜ RebuildsColumns shape a b (now (stripe .entry)) r (now (stripe .exit)) ⌝ }

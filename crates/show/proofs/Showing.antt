@@ -12,7 +12,7 @@ use Rattle.codes.specs.Geometry.{cellThere, columnOf, place}
 use Rattle.codes.specs.Refusals.{refusal}
 use Rattle.codes.proofs.Geometry.{column-there, is-there, cell-there-at, place-inside}
 use Rattle.codes.proofs.Positions.{cell-inside}
-use Rattle.codes.proofs.Shapes.{length-high}
+use Rattle.codes.proofs.Shapes.{mostBytes, length-high}
 use Rattle.show.specs.declared.ShownAt.{ShownAt}
 use Rattle.show.specs.declared.ShownAt.the-variants.{Stripe, Spare, Refused}
 use Rattle.show.specs.Refusals.{showFaults}
@@ -91,7 +91,7 @@ module _ (s : Shape) (k done row column : ℕ) (stripe spare : Lent) (said : Sho
     pub stripe-ends : at + s .cell ≤ length (stripe .now)
     stripe-ends = omega (arith, stripe-place, in-stripe s (length (stripe .now)) (length (spare .now)) k done row column (right-of stripe-none))
 
-    pub stripe-small : at + s .cell ≤ 3936256
+    pub stripe-small : at + s .cell ≤ mostBytes
     stripe-small = let r = right-of stripe-none in omega (arith, stripe-ends, r .buffers .long, length-high s (r .buffers .of .formed))
 
     pub from-stripe : (answer : Lent) → PartOf stripe at (s .cell) answer → Shows s k done row column stripe spare answer

@@ -20,8 +20,9 @@ use Rattle.codes.specs.Shape.{cells, stripeLength}
 use Rattle.codes.specs.Geometry.{cellThere, place}
 use Rattle.codes.specs.Encoded.{byteAt, total}
 use Rattle.codes.specs.Holders.{holds}
-use Rattle.codes.specs.Lines.{Holding}
+use Rattle.codes.specs.Lines.{takesShared, Holding}
 use Rattle.codes.proofs.Geometry.{place-apart, byte-there, byte-missing}
+use Rattle.codes.proofs.Shared.{own-total}
 use Rattle.codes.proofs.Solutions.{total-holds}
 use Rattle.spare.specs.Places.{standIn, OthersPut, OthersAt}
 use Rattle.spare.proofs.Slots.{Held, others-are}
@@ -138,13 +139,13 @@ module _ (s : Shape) (q own : ℕ) (h : Held s q own) (there : cellThere s own �
           ∙ ap (λ (b : Bool). cond b 1 0) (ne-eqb (place s c + 0) (place s own) (λ e. ⊎-elim (λ a. omega (arith, h .formed .cellLow)) (λ a. omega (arith, h .formed .cellLow)) (place-apart s (h .formed) c own t there n))))
           (byte-missing s (h .formed) (unit (place s own)) c 0)
 
-  module _ (n : ℕ) (list : List ℕ) (all : Holding s q n list) where
+  module _ (plain : takesShared s q ≡ false) (n : ℕ) (list : List ℕ) (all : Holding s q n list) where
     -- so the own cell's place is in the list, an odd number of times
     odd : xors n (λ k. hit (place s own) (getD list k 0)) ≡ 1
     odd =
         xors-same n (λ k. hit (place s own) (getD list k 0)) (λ k. getD (unit (place s own)) (getD list k 0 + 0) 0)
         (λ k l. sym (unit-is (place s own) (getD list k 0 + 0) ∙ ap (hit (place s own)) (add-zero (getD list k 0))))
-        ∙ all .sum (unit (place s own)) 0 ∙ unit-total
+        ∙ all .is (unit (place s own)) 0 ∙ own-total s q plain (λ c. byteAt s (unit (place s own)) c 0) ∙ unit-total
 
     pub some-cell : 1 ≤ n
     some-cell = by-equal n 0 (λ e. absurd (let none : _≡_ {A = ℕ} 0 1 = sym (xors-none _) ∙ ap (λ (m : ℕ). xors m (λ k. hit (place s own) (getD list k 0))) (sym e) ∙ odd in omega arith)) (λ e. omega arith)
@@ -159,7 +160,7 @@ module _ (s : Shape) (q own : ℕ) (h : Held s q own) (there : cellThere s own �
           ∙ xors-same m (λ j. getD stripe (getD (take m places) j 0 + (0 + t)) 0) (λ j. getD stripe (standIn at (getD list m 0) (getD list j 0) + t) 0)
           (λ j l. ap₂ (λ (x y : ℕ). getD stripe (x + y) 0) (slot j l) (zero-add t))
           ∙ left-out (λ x. getD stripe (x + t) 0) (λ k. getD list k 0) at m (ap₂ (λ (x y : ℕ). xors x (λ k. hit y (getD list k 0))) whole e ∙ odd)
-          ∙ ap₂ _⊕_ (ap (λ (x : ℕ). xors x (λ k. getD stripe (getD list k 0 + t) 0)) whole ∙ all .sum stripe t)
+          ∙ ap₂ _⊕_ (ap (λ (x : ℕ). xors x (λ k. getD stripe (getD list k 0 + t) 0)) whole ∙ all .is stripe t ∙ own-total s q plain (λ c. byteAt s stripe c t))
           (ap (λ (x : ℕ). getD stripe (x + t) 0) e ∙ sym (byte-there s (h .formed) stripe own t there))
           ∙ sym (others-are s q own h (λ c. byteAt s stripe c t));
     }

@@ -18,7 +18,8 @@ use Rattle.codes.specs.Encoded.{parityCell, sumsCell, sumOver, parityByte, Solv
 use Rattle.codes.specs.Agree.{Agree}
 use Rattle.codes.proofs.Ordered.{ordered}
 use Rattle.codes.proofs.Parity.{sum-same, same-bytes}
-use Rattle.equation.specs.Window.{ParitySet}
+use Rattle.equation.specs.Window.{Shares, ParitySet}
+use Rattle.equation.proofs.Windows.{shared-stays}
 use Rattle.stripe.specs.Encode.{EncodingOf}
 
 -- f after the parity cells of the first q equations are set, one after the other
@@ -78,6 +79,11 @@ settled-more s w q old mid new lq h p = subst (λ (k : ℕ). Settled s k old new
   where
     own : (t : ℕ) → t < s .cell → byteAt s new (parityCell s q) t ≡ parityByte s mid q t
     own t l = subst (λ (k : ℕ). byteAt s new (parityCell s q) k ≡ parityByte s mid q k) (zero-add t) (p .own t l)
+
+-- what is shared stays as it was
+pub settled-shares : (s : Shape) (w : WellFormed s) (q : ℕ) (old new : List ℕ) → q ≤ equations s → Settled s q old new → (shared : List ℕ) → Shares s old 0 (s .cell) shared → Shares s new 0 (s .cell) shared
+settled-shares s w q old new lq h shared =
+    shared-stays s old 0 (s .cell) w new shared (λ c lc plain i l. sym (h .same c lc (0 + i) (omega arith) ∙ stays s w (λ d. byteAt s old d (0 + i)) c plain q lq))
 
 pub settled-all : (s : Shape) (w : WellFormed s) (q : ℕ) (old new : List ℕ) → Settled s q old new → q ≡ equations s → EncodingOf s old new
 settled-all s w q old new h e = record {

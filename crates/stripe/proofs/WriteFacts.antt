@@ -20,7 +20,7 @@ use Rattle.codes.proofs.Ordered.{ordered}
 use Rattle.codes.proofs.Parity.{sum-same, same-bytes}
 use Rattle.codes.proofs.Solutions.{plus, sum-plus}
 use Rattle.codes.proofs.Units.{unit-own, unit-data, unit-scaled, unit-count}
-use Rattle.codes.proofs.Sizes.{Sized, rdp-size, hcode-size, xcode-size}
+use Rattle.codes.proofs.Sizes.{Sized, rdp-size, hcode-size, xcode-size, evenodd-size}
 use Rattle.stripe.specs.Write.{Written, Alone, Depending}
 use Rattle.stripe.proofs.Encoding.{one-solution, same-data}
 use Rattle.stripe.proofs.Writing.{depending}
@@ -88,7 +88,7 @@ module _ (s : Shape) (w : WellFormed s) (i j : ℕ) (cell : DataCell s i j) wher
 
   -- some set of equations has the parity cells that depend on it
   sized : (n : ℕ) × Sized s c n
-  sized = by-code s w (λ e. (_, rdp-size s w i j cell e)) (λ e. (_, hcode-size s w i j cell e)) (λ e. (_, xcode-size s w i j cell e))
+  sized = by-code s w (λ e. (_, rdp-size s w i j cell e)) (λ e. (_, hcode-size s w i j cell e)) (λ e. (_, xcode-size s w i j cell e)) (λ e. (_, evenodd-size s w i j cell e))
 
   -- Only the data cell and the parity cells that depend on it change: a cell that stays 0 where 1 is put alone at c and encoded is as it was
   pub others-stay : (old bytes new : List ℕ) → Written s c old bytes new → (unit : ℕ → ℕ) → Alone s c unit
@@ -129,3 +129,7 @@ module _ (s : Shape) (w : WellFormed s) (i j : ℕ) (cell : DataCell s i j) wher
 
   pub xcode-count : (n : ℕ) → Depending s c n → s .code ≡ 3 → n ≡ 2
   xcode-count n h is-xcode = by-size n h 2 (xcode-size s w i j cell is-xcode)
+
+  -- EVENODD: p where i + j = p - 1, otherwise 2
+  pub evenodd-count : (n : ℕ) → Depending s c n → s .code ≡ 4 → n ≡ cond (eqb (i + j) (s .p - 1)) (s .p) 2
+  evenodd-count n h is-evenodd = by-size n h (cond (eqb (i + j) (s .p - 1)) (s .p) 2) (evenodd-size s w i j cell is-evenodd)

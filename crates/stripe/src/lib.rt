@@ -9,6 +9,7 @@ ghost use Rattle.codes.specs.Shape.{equations, cellNumber, stripeLength, WellFo
 ghost use Rattle.codes.specs.Geometry.{place};
 ghost use Rattle.codes.specs.Depends.{WriteRight};
 ghost use Rattle.codes.specs.Encoded.{brokenEquations};
+ghost use Rattle.equation.specs.Window.{Shares};
 ghost use Rattle.stripe.specs.Encode.{EncodingOf, Encodes};
 ghost use Rattle.stripe.specs.Broken.{Counts};
 ghost use Rattle.stripe.specs.Parts.{differs, Spread, FromCell};
@@ -16,21 +17,37 @@ ghost use Rattle.stripe.specs.Write.{Written, Depending, Writes};
 use codes::Counted;
 use codes::Shape;
 
-// Sets every parity cell, equation by equation: what a later equation sums has been set by then.
-fn set_parities(shape: Shape, stripe: &mut [u8])
-    requires { ⌜ WellFormed shape × (length (now stripe) ≡ stripeLength shape) ⌝ }
+// Sets every parity cell with what is shared, equation by equation: what a later equation sums has been set by then.
+fn set_parities_with(shape: Shape, stripe: &mut [u8], shared: &[u8])
+    requires { ⌜ WellFormed shape × (length (now stripe) ≡ stripeLength shape) × Shares shape (now stripe) 0 (shape .cell) (now shared) ⌝ }
     ensures { λ _. ⌜ EncodingOf shape (now (stripe .entry)) (now (stripe .exit)) ⌝ }
 {
     let cell = shape.cell;
     let n = codes::equation_count(shape);
     let mut q = 0;
     while q < n {
-        equation::set_parity(shape, stripe, q, 0, cell);
+        equation::set_parity(shape, stripe, q, 0, cell, shared);
         q += 1;
     }
 }
 
-// Encode: every parity cell is set so that the stripe is encoded, and data cells stay. Answers 0, or refusal 1, 2, 4 or 5.
+// Sets every parity cell. What several equations share is data, and summed once for all of them.
+fn set_parities(shape: Shape, stripe: &mut [u8])
+    requires { ⌜ WellFormed shape × (length (now stripe) ≡ stripeLength shape) ⌝ }
+    ensures { λ _. ⌜ EncodingOf shape (now (stripe .entry)) (now (stripe .exit)) ⌝ }
+{
+    if !codes::shares(shape) {
+        // nothing is shared: any bytes will do for it
+        let none = [0u8; 1];
+        set_parities_with(shape, stripe, &none);
+        return;
+    }
+    let mut shared = [0u8; codes::MOST_CELL];
+    equation::put_shared(shape, stripe, 0, shape.cell, &mut shared);
+    set_parities_with(shape, stripe, &shared);
+}
+
+// Encode: every parity cell is set so that the stripe is encoded, and data cells stay. Answers 0, or refusal 1, 2, 14, 4 or 5.
 pub fn encode(shape: Shape, stripe: &mut [u8]) -> usize
     ensures { λ r. ⌜ Encodes shape (now (stripe .entry)) r (now (stripe .exit)) ⌝ }
 {
@@ -42,9 +59,9 @@ pub fn encode(shape: Shape, stripe: &mut [u8]) -> usize
     0
 }
 
-// How many equations fail in at least one byte.
-fn count_broken(shape: Shape, stripe: &[u8]) -> usize
-    requires { ⌜ WellFormed shape × (length (now stripe) ≡ stripeLength shape) ⌝ }
+// How many equations fail in at least one byte, with what is shared.
+fn count_broken_with(shape: Shape, stripe: &[u8], shared: &[u8]) -> usize
+    requires { ⌜ WellFormed shape × (length (now stripe) ≡ stripeLength shape) × Shares shape (now stripe) 0 (shape .cell) (now shared) ⌝ }
     ensures { λ r. ⌜ r ≡ brokenEquations shape (now (stripe .entry)) ⌝ }
 {
     let cell = shape.cell;
@@ -52,7 +69,7 @@ fn count_broken(shape: Shape, stripe: &[u8]) -> usize
     let mut broken = 0;
     let mut q = 0;
     while q < equations {
-        if equation::fails(shape, stripe, q, 0, cell) {
+        if equation::fails(shape, stripe, q, 0, cell, shared) {
             broken += 1;
         }
         q += 1;
@@ -60,7 +77,21 @@ fn count_broken(shape: Shape, stripe: &[u8]) -> usize
     broken
 }
 
-// Broken: how many equations fail in at least one byte. It only reads. Refusals 1, 2, 4 and 5.
+// How many equations fail in at least one byte.
+fn count_broken(shape: Shape, stripe: &[u8]) -> usize
+    requires { ⌜ WellFormed shape × (length (now stripe) ≡ stripeLength shape) ⌝ }
+    ensures { λ r. ⌜ r ≡ brokenEquations shape (now (stripe .entry)) ⌝ }
+{
+    if !codes::shares(shape) {
+        // nothing is shared: any bytes will do for it
+        return count_broken_with(shape, stripe, stripe);
+    }
+    let mut shared = [0u8; codes::MOST_CELL];
+    equation::put_shared(shape, stripe, 0, shape.cell, &mut shared);
+    count_broken_with(shape, stripe, &shared)
+}
+
+// Broken: how many equations fail in at least one byte. It only reads. Refusals 1, 2, 14, 4 and 5.
 pub fn broken(shape: Shape, stripe: &[u8]) -> Counted
     ensures { λ r. ⌜ Counts shape (now (stripe .entry)) r ⌝ }
 {
@@ -114,7 +145,7 @@ fn write_cell(
 }
 
 // Small write: puts new bytes into a data cell, and into the parity cells that depend on it what the equations say.
-// Answers how many parity cells depend on the position, or refusal 1, 2, 4, 5, 6, 7 or 8.
+// Answers how many parity cells depend on the position, or refusal 1, 2, 14, 4, 5, 6, 7 or 8.
 pub fn write(shape: Shape, stripe: &mut [u8], row: usize, column: usize, new: &[u8]) -> Counted
     ensures { λ r. ⌜ Writes shape row column (now (new .entry)) (now (stripe .entry)) (now (stripe .exit)) r ⌝ }
 {

@@ -1,9 +1,9 @@
 -- Every row of the table holds: one test that antt computes over the whole table, and a law that turns the test into each row's claim.
 use mathlib.Core.Path.{_≡_, refl, sym, ap, _∙_, subst}
-use mathlib.Core.Logic.{_⊎_, ⊎-elim}
+use mathlib.Core.Logic.{_≢_}
 use mathlib.Core.List.{List, [], _∷_}
 use mathlib.Core.Bool.{Bool, true, false, not, _&&_, xor}
-use Prim.Native.Nat.{ℕ, _^_, _<_}
+use Prim.Native.Nat.{ℕ, _^_, _≤_, _<_}
 use native.Mathlib.Omega.{arith}
 use lib.Dec.{eqb, ltb}
 use lib.ListN.{length, getD, List·getD-eq-default}
@@ -16,14 +16,16 @@ use Rattle.bits.specs.Bit.{bit, lowest}
 use Rattle.elimination.specs.Solution.{syndrome}
 use Rattle.elimination.specs.Method.{run}
 use Rattle.codes.specs.declared.Shape.{Shape}
-use Rattle.codes.specs.declared.Width.the-variants.{Data}
-use Rattle.codes.specs.Shape.{listed, rows, columns, missing, disks, existing, equations, cells, cellNumber, stripeLength, WellFormed}
+use Rattle.codes.specs.declared.Width.{Width}
+use Rattle.codes.specs.declared.Width.the-variants.{Full, Data}
+use Rattle.codes.specs.Shape.{lastCode, listed, rows, columns, missing, disks, existing, equations, cells, cellNumber, stripeLength, WellFormed}
 use Rattle.codes.specs.Geometry.{isThere, cellThere, columnOf, liesAt, cellAt, cellOf, callersCell, place}
 use Rattle.codes.specs.Equations.{equation}
 use Rattle.codes.specs.Encoded.{parityCell, sumsCell, byteAt, sumOver, parityByte, isParity, Encoded, fails, brokenEquations}
 use Rattle.codes.specs.Refusals.{order, applies, firstOf, refusal, shapeFaults, stripeFaults, writeFaults, cellsFaults}
 use Rattle.codes.specs.Holders.{holds}
 use Rattle.codes.specs.Depends.{WriteRight}
+use Rattle.codes.proofs.Shapes.{each-code}
 use Rattle.codes.proofs.Refused.{accepted, write-accepted}
 use Rattle.codes.proofs.Positions.{cell-inside}
 use Rattle.codes.proofs.Geometry.{column-there, cell-there-at}
@@ -43,7 +45,8 @@ use Rattle.rebuild.proofs.Computed.{outcome, stops, stops-undetermined, passes-
 use Rattle.plan.specs.Plan.{diagonal, chosen, readsCell, cellsRead, byRule, isAccepted}
 use Rattle.plan.specs.Refusals.{planFaults}
 use Rattle.spare.specs.Refusals.{spareFaults, runFaults}
-use Rattle.table.specs.Examples.{Claim, encoded, broken, written, rebuildRefused, rebuilt, found, planned, runRefused, Example, emptySpare, table, shelves, Claims, Holds, AllHold}
+use Rattle.show.specs.Refusals.{showFaults}
+use Rattle.table.specs.Examples.{Claim, encoded, broken, written, rebuildRefused, rebuilt, found, planned, runRefused, Example, emptySpare, table, shelves, evenodds, Claims, Holds, AllHold}
 
 -- the difference put alone and encoded, byte t of it in cell k
 differing : Shape → ℕ → List ℕ → List ℕ → ℕ → ℕ → ℕ
@@ -330,19 +333,39 @@ pub shelves-hold : AllHold shelves
 unfolding shelves passes claimed rightCells unlike unwritten differing depending settled isParity writeFaults refusal firstOf order applies stripeFaults shapeFaults cellsFaults listed rows columns equations cells cellNumber stripeLength columnOf liesAt cellOf callersCell place equation parityCell sumsCell byteAt sumOver fails brokenEquations any count xors _⊕_ named run lowest holds xor finds replaces wide inColumns syndrome bit diagonal chosen readsCell cellsRead byRule isAccepted planFaults spareFaults runFaults missing disks existing isThere cellThere
 shelves-hold = all-hold shelves refl
 
--- a plan for another code than RDP with a number of data columns is refused for the number, not for the code
-module _ (p cell m k : ℕ) (prime : listed p ≡ true) where
-  abbrev numbered : ℕ → Shape
-  numbered code = record { code = code; p = p; cell = cell; width = Data m }
+pub evenodds-hold : AllHold evenodds
+unfolding evenodds passes claimed rightCells unlike unwritten differing depending settled isParity writeFaults refusal firstOf order applies stripeFaults shapeFaults cellsFaults listed rows columns equations cells cellNumber stripeLength columnOf liesAt cellOf callersCell place equation parityCell sumsCell byteAt sumOver fails brokenEquations any count xors _⊕_ named run lowest holds xor finds replaces wide inColumns syndrome bit diagonal chosen readsCell cellsRead byRule isAccepted planFaults spareFaults runFaults missing disks existing isThere cellThere
+evenodds-hold = all-hold evenodds refl
 
-  of-two : refusal (planFaults (numbered 2) k) ≡ 14
-  unfolding planFaults refusal firstOf order applies
-  of-two = rw prime refl
+-- plan, run and show of another code than RDP are refused for the code, and where a number of data columns is given for the number, whatever else they are told
+module _ (p cell : ℕ) (prime : listed p ≡ true) where
+  abbrev pub shaped : Width → ℕ → Shape
+  shaped width code = record { code = code; p = p; cell = cell; width = width }
 
-  of-three : refusal (planFaults (numbered 3) k) ≡ 14
-  unfolding planFaults refusal firstOf order applies
-  of-three = rw prime refl
+  -- each of the three calls gives this number
+  pub record Give (s : Shape) (number : ℕ) : Type 0 where
+    pub plans : (k : ℕ) → refusal (planFaults s k) ≡ number
+    pub runs : (bytes spare k plan first : ℕ) → refusal (runFaults s bytes spare k plan first) ≡ number
+    pub shows : (bytes spare k done row column : ℕ) → refusal (showFaults s bytes spare k done row column) ≡ number
 
-  pub data-before-code : (code : ℕ) → (code ≡ 2) ⊎ (code ≡ 3) → refusal (planFaults (numbered code) k) ≡ 14
-  data-before-code code =
-      ⊎-elim (λ e. subst (λ (c : ℕ). refusal (planFaults (numbered c) k) ≡ 14) (sym e) of-two) (λ e. subst (λ (c : ℕ). refusal (planFaults (numbered c) k) ≡ 14) (sym e) of-three)
+  given : (s : Shape) (number : ℕ) → ((k : ℕ) → refusal (planFaults s k) ≡ number) → ((bytes spare k plan first : ℕ) → refusal (runFaults s bytes spare k plan first) ≡ number)
+      → ((bytes spare k done row column : ℕ) → refusal (showFaults s bytes spare k done row column) ≡ number) → Give s number
+  given s number a b c = record { plans = a; runs = b; shows = c }
+
+  pub code-refused : (code : ℕ) → 1 < code → code ≤ lastCode → Give (shaped Full code) 3
+  unfolding planFaults spareFaults runFaults showFaults refusal firstOf order applies
+  code-refused code lo hi =
+      each-code (λ n. n ≢ 1 → Give (shaped Full n) 3) (λ n. absurd (n refl))
+      (λ n. given _ 3 (λ k. rw prime refl) (λ a b c d e. rw prime refl) (λ a b c d e f. rw prime refl))
+      (λ n. given _ 3 (λ k. rw prime refl) (λ a b c d e. rw prime refl) (λ a b c d e f. rw prime refl))
+      (λ n. given _ 3 (λ k. rw prime refl) (λ a b c d e. rw prime refl) (λ a b c d e f. rw prime refl))
+      code (omega arith) hi (λ e. omega arith)
+
+  pub data-before-code : (m code : ℕ) → 1 < code → code ≤ lastCode → Give (shaped (Data m) code) 14
+  unfolding planFaults spareFaults runFaults showFaults refusal firstOf order applies
+  data-before-code m code lo hi =
+      each-code (λ n. n ≢ 1 → Give (shaped (Data m) n) 14) (λ n. absurd (n refl))
+      (λ n. given _ 14 (λ k. rw prime refl) (λ a b c d e. rw prime refl) (λ a b c d e f. rw prime refl))
+      (λ n. given _ 14 (λ k. rw prime refl) (λ a b c d e. rw prime refl) (λ a b c d e f. rw prime refl))
+      (λ n. given _ 14 (λ k. rw prime refl) (λ a b c d e. rw prime refl) (λ a b c d e f. rw prime refl))
+      code (omega arith) hi (λ e. omega arith)

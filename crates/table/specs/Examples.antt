@@ -1,4 +1,5 @@
--- The examples that document 01 marks P, as one table, and such of shelves with fewer disks. Each row claims something in the words of the contracts.
+-- The examples that document 01 marks P, as one table, and such of shelves with fewer disks and of EVENODD. Each row claims something in the words of the
+-- contracts.
 use mathlib.Core.Path.{_≡_}
 use mathlib.Core.List.{List, [], _∷_, _++_}
 use Prim.Native.Nat.{ℕ, _*_}
@@ -42,7 +43,7 @@ pub record Example : Type 0 where
   pub stripe : List ℕ
   pub claim : Claim
 
--- RDP, H-Code and X-Code with p = 3 and cells of one byte
+-- RDP, H-Code, X-Code and EVENODD with p = 3 and cells of one byte
 abbrev pub small : ℕ → Shape
 small code = record { code = code; p = 3; cell = 1; width = Full }
 
@@ -107,6 +108,31 @@ shelves =
     ∷ record { number = 1; shape = shelf; claim = planned 2 6 7; stripe = onShelf 0x01 }
     ∷ record { number = 1; shape = shelf; claim = planned 3 15 10; stripe = onShelf 0x01 }
     ∷ record { number = 1; shape = shelf; claim = runRefused 2 1 9; stripe = onShelf 0x01 }
+    ∷ []
+
+-- a stripe of EVENODD, by the bytes of its columns 1, 3 and 4
+abbrev pub members : ℕ → ℕ → ℕ → ℕ → ℕ → ℕ → List ℕ
+members a b c d e f = 0x01 ∷ 0x02 ∷ a ∷ b ∷ 0x10 ∷ 0x20 ∷ c ∷ d ∷ e ∷ f ∷ []
+
+-- the encoded one, and one with other bytes found in column 1
+abbrev pub right : List ℕ
+right = members 0x04 0x08 0x15 0x2A 0x39 0x1E
+
+abbrev pub wrong : List ℕ
+wrong = members 0xEE 0xEE 0x15 0x2A 0x39 0x1E
+
+-- the same of EVENODD, for document 02, request 03: a write off S and one on it, what one cell of S breaks, column 1 found, columns 1 and 2 rebuilt, one lost
+-- cell too many, and a run refused
+unfoldable pub evenodds : List Example
+evenodds =
+    record { number = 3; shape = small 4; claim = encoded; stripe = right }
+    ∷ record { number = 3; shape = small 4; claim = written 0 1 (0x05 ∷ []) (members 0x05 0x08 0x14 0x2A 0x39 0x1F) 2; stripe = right }
+    ∷ record { number = 3; shape = small 4; claim = written 1 1 (0x09 ∷ []) (members 0x04 0x09 0x15 0x2B 0x38 0x1F) 3; stripe = right }
+    ∷ record { number = 3; shape = small 4; claim = broken 3; stripe = members 0x04 0x09 0x15 0x2A 0x39 0x1E }
+    ∷ record { number = 3; shape = small 4; claim = found (Column 1); stripe = wrong }
+    ∷ record { number = 3; shape = small 4; claim = rebuilt (2 ∷ 3 ∷ 4 ∷ 5 ∷ []) right; stripe = wrong }
+    ∷ record { number = 3; shape = small 4; claim = rebuildRefused (2 ∷ 3 ∷ 4 ∷ 5 ∷ 0 ∷ []) 11; stripe = wrong }
+    ∷ record { number = 3; shape = small 4; claim = runRefused 0 0 3; stripe = right }
     ∷ []
 
 -- a spare for a stripe's column

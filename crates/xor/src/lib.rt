@@ -4,6 +4,7 @@ ghost use mathlib.Core.Path.{_≡_};
 ghost use mathlib.Core.Bool.{true, false};
 ghost use Prim.Native.Nat.{ℕ, _+_, _^_, _≤_, _<_};
 ghost use lib.ListN.{length, getD};
+ghost use Rattle.xor.specs.Xor.{_⊕_};
 ghost use Rattle.xor.specs.Runs.{sumAt, withOwn, changedBy, addedTo, Inside, Apart, Beside, Added, Put, Says, NonzeroAt};
 
 // The bytes of a block: that many stay in registers.
@@ -134,6 +135,46 @@ pub fn is_sum(s: &[u8], places: &[usize], to: usize, at: usize, n: usize) -> boo
     while done < n {
         let next = block_at(done, n);
         if !is_sum_block(s, places, to, at + next, BLOCK) {
+            return false;
+        }
+        done = next + BLOCK;
+    }
+    true
+}
+
+// Whether n bytes of the XOR of the run at `to` and of the runs at the places, from `at` on, and of `other`, from `from` on, are all zero.
+fn is_sum_with_block(
+    s: &[u8],
+    places: &[usize],
+    to: usize,
+    at: usize,
+    n: usize,
+    other: &[u8],
+    from: usize,
+) -> bool
+    requires { ⌜ (n ≤ 128) × Inside (length (now s)) (now places) (at + n) × (to + at + n ≤ length (now s)) × (from + n ≤ length (now other)) ⌝ }
+    ensures { λ r. ⌜ Says ((t : ℕ) → t < n → withOwn (now (s .entry)) (now (places .entry)) to (at + t) ⊕ getD (now (other .entry)) (from + t) 0 ≡ 0)
+        r ⌝ }
+{
+    let own = add_bytes([0u8; BLOCK], s, to + at, n);
+    let runs = add_runs(own, s, places, at, n);
+    let sum = add_bytes(runs, other, from, n);
+    all_zero(sum, n)
+}
+
+// Whether n bytes of the run at `to`, from `at` on, are the XOR of the runs at the places and of `other`. It stops at the first block that
+// is not.
+pub fn is_sum_with(s: &[u8], places: &[usize], to: usize, at: usize, n: usize, other: &[u8]) -> bool
+    requires { ⌜ Inside (length (now s)) (now places) (at + n) × (to + at + n ≤ length (now s)) × (n ≤ length (now other)) ⌝ }
+    ensures { λ r. ⌜ Says ((t : ℕ) → t < n → withOwn (now (s .entry)) (now (places .entry)) to (at + t) ⊕ getD (now (other .entry)) t 0 ≡ 0) r ⌝ }
+{
+    if n < BLOCK {
+        return is_sum_with_block(s, places, to, at, n, other, 0);
+    }
+    let mut done = 0;
+    while done < n {
+        let next = block_at(done, n);
+        if !is_sum_with_block(s, places, to, at + next, BLOCK, other, next) {
             return false;
         }
         done = next + BLOCK;

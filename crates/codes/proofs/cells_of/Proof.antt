@@ -1,4 +1,4 @@
--- `codes::cells_of` meets its contract. The parity cell's place stands behind those of the cells that it is the XOR of.
+-- `codes::cells_of` meets its contract. The parity cell's place stands behind those of the cells that the equation sums by itself.
 use Rattle.codes.proofs.Walked.{holding}
 use borrow.Author.Needs.{needs}
 use Rattle.codes.proofs.cells_of.Statement.{statement}

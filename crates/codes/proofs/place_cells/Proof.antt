@@ -1,6 +1,7 @@
 -- `codes::place_cells` meets its contract. The loop's invariant: the first k places are filled in, and the code stands at cell k.
 use Prim.Native.Nat.{_-_, _≤_}
 use native.Mathlib.Omega.{arith}
+use Rattle.codes.proofs.Stepping.{count-most}
 use Rattle.codes.proofs.Walked.{line, Filled, filled-none, filled-more, bytes-small, walked-small, all-placed}
 use Rattle.codes.proofs.place_cells.Statement.{statement}
 use Rattle.codes.proofs.place_cells.Tie as tie
@@ -24,13 +25,13 @@ loop-holds : tie.Need-loop-holds Inv-loop μ-loop
 loop-holds c = (omega arith, filled-none _ _ _ (c .before .before .before .pre .2))
 
 mul-places : tie.Need-mul-places Inv-loop μ-loop
-mul-places c = omega (arith, c .before .before .before .before .before .pre .1 .few)
+mul-places c = omega (arith, c .before .before .before .before .before .pre .1 .few, count-most (c .before .before .before .before .before .args .l))
 
 element-write-places : tie.Need-element-write-places Inv-loop μ-loop
-element-write-places c = omega (arith, c .before .before .before .before .before .pre .1 .few)
+element-write-places c = omega (arith, c .before .before .before .before .before .pre .1 .few, count-most (c .before .before .before .before .before .args .l))
 
 add-k : tie.Need-add-k Inv-loop μ-loop
-add-k c = omega (arith, c .before .before .before .before .before .pre .1 .few)
+add-k c = omega (arith, c .before .before .before .before .before .pre .1 .few, count-most (c .before .before .before .before .before .args .l))
 
 next-place-requires : tie.Need-next-place-requires Inv-loop μ-loop
 next-place-requires c κs =
@@ -41,7 +42,7 @@ loop-less : tie.Need-loop-less Inv-loop μ-loop
 loop-less c = omega arith
 
 loop-again : tie.Need-loop-again Inv-loop μ-loop
-loop-again c = (omega arith, filled-more _ _ _ _ _ _ (omega (arith, c .before .before .before .before .before .before .pre .1 .few)) (c .before .before .loop .inv .1) (c .next-place .ensures))
+loop-again c = (omega arith, filled-more _ _ _ _ _ _ (omega (arith, c .before .before .before .before .before .before .pre .1 .few, count-most (c .before .before .before .before .before .before .args .l))) (c .before .before .loop .inv .1) (c .next-place .ensures))
 
 returns : tie.Need-returns Inv-loop μ-loop
 returns c =

@@ -1,5 +1,6 @@
 -- `codes::place_line` meets its contract. The cells that the line walks, and the extra one.
 use native.Mathlib.Omega.{arith}
+use Rattle.codes.proofs.Stepping.{count-most}
 use Rattle.codes.proofs.Walked.{bytes-small, all-plain, all-extra}
 use borrow.Author.Needs.{needs}
 use Rattle.codes.proofs.place_line.Statement.{statement}
@@ -15,16 +16,16 @@ mul-places : tie.Need-mul-places
 mul-places c = let s = c .before .before .before .before in omega (arith, bytes-small (s .args .shape) (s .pre .0) (s .args .l) (s .pre .1) (s .args .l .extra) (s .pre .1 .extra))
 
 mul-places-2 : tie.Need-mul-places-2
-mul-places-2 c = search needs
+mul-places-2 c = let s = c .before .before .before .before in omega (arith, s .pre .1 .few, count-most (s .args .l))
 
 element-write-places : tie.Need-element-write-places
-element-write-places c = search needs
+element-write-places c = let s = c .before .before .before .before in omega (arith, s .pre .1 .few, count-most (s .args .l))
 
 add-result : tie.Need-add-result
-add-result c = search needs
+add-result c = let s = c .before .before .before .before in omega (arith, s .pre .1 .few, count-most (s .args .l))
 
 returns-2 : tie.Need-returns-2
-returns-2 c = let s = c .before .before .before .before in all-extra (s .args .shape) (s .args .l) _ (c .before .before .place-cells .ensures) (s .pre .1 .few) (c .before .if1 .left)
+returns-2 c = let s = c .before .before .before .before in all-extra (s .args .shape) (s .args .l) _ (c .before .before .place-cells .ensures) (omega (arith, s .pre .1 .few, count-most (s .args .l))) (c .before .if1 .left)
 
 pub place-line-spec : {M : Type 1} → statement M
 place-line-spec =

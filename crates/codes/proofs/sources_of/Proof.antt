@@ -1,4 +1,4 @@
--- `codes::sources_of` meets its contract. The cells that the equation sums are apart from its parity cell.
+-- `codes::sources_of` meets its contract. The cells that the equation sums by itself are apart from its parity cell.
 use native.Mathlib.Omega.{arith}
 use Rattle.codes.proofs.Walked.{parity-at, parity-small, found}
 use borrow.Author.Needs.{needs}

@@ -4,7 +4,7 @@ use Prim.Native.Nat.{ℕ, _-_, _≤_, _<_}
 use native.Mathlib.Omega.{arith}
 use lib.Dec.{eqb}
 use lib.ListN.{length}
-use Rattle.codes.proofs.Shapes.{cells-high}
+use Rattle.codes.proofs.Shapes.{mostCells, cells-high}
 use Rattle.codes.proofs.Geometry.{cell-of-inside}
 use Rattle.decide.proofs.Marks.{Marked, ofList, marked-none, marked-one, named-all}
 use borrow.Author.Needs.{needs}
@@ -32,7 +32,7 @@ cell-of-requires c κs =
     (start .pre .0, start .pre .1 (c .before .before .loop .k) (c .before .loop-test .taken))
 
 -- the cell is one of the map's
-cell-in : (c : tie.After-cell-of Inv-loop μ-loop) → c .cell-of .result < 961
+cell-in : (c : tie.After-cell-of Inv-loop μ-loop) → c .cell-of .result < mostCells
 cell-in c =
     let start = c .before .before .before .before .before in
     let named = start .pre .1 (c .before .before .before .loop .k) (c .before .before .loop-test .taken) in

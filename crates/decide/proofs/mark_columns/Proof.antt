@@ -2,6 +2,7 @@
 use mathlib.Core.Path.{refl}
 use Prim.Native.Nat.{ℕ, _+_, _-_, _*_, _≤_, _<_}
 use native.Mathlib.Omega.{arith}
+use Rattle.codes.proofs.Shapes.{mostCells}
 use Rattle.codes.specs.Shape.{columns}
 use Rattle.decide.proofs.Marks.{Marked, ofColumns, marked-none, marked-two, columns-all, in-map}
 use borrow.Author.Needs.{needs}
@@ -21,15 +22,15 @@ loop-holds : tie.Need-loop-holds Inv-loop μ-loop
 loop-holds c = (omega arith, marked-none _)
 
 -- both cells of a row have a place in the map
-column-in : (c : tie.In-loop Inv-loop μ-loop) (j : ℕ) → j < columns (c .before .before .before .args .shape) → j * c .before .before .row-count .result + c .before .loop .i < 961
+column-in : (c : tie.In-loop Inv-loop μ-loop) (j : ℕ) → j < columns (c .before .before .before .args .shape) → j * c .before .before .row-count .result + c .before .loop .i < mostCells
 column-in c j l =
     let start = c .before .before .before in
     in-map (start .args .shape) (start .pre .0) _ (c .before .before .row-count .ensures) (c .before .loop .i) j (c .loop-test .taken) l
 
-first-in : (c : tie.In-loop Inv-loop μ-loop) → c .before .before .before .args .a * c .before .before .row-count .result + c .before .loop .i < 961
+first-in : (c : tie.In-loop Inv-loop μ-loop) → c .before .before .before .args .a * c .before .before .row-count .result + c .before .loop .i < mostCells
 first-in c = column-in c _ (c .before .before .before .pre .1)
 
-second-in : (c : tie.In-loop Inv-loop μ-loop) → c .before .before .before .args .b * c .before .before .row-count .result + c .before .loop .i < 961
+second-in : (c : tie.In-loop Inv-loop μ-loop) → c .before .before .before .args .b * c .before .before .row-count .result + c .before .loop .i < mostCells
 second-in c = column-in c _ (c .before .before .before .pre .2)
 
 mul-map : tie.Need-mul-map Inv-loop μ-loop

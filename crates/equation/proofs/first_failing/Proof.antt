@@ -1,65 +1,44 @@
--- `equation::first_failing` meets its contract. The loop's invariant: none of the first q equations fails in the window.
-use mathlib.Core.Path.{_≡_, sym, ap, _∙_}
-use mathlib.Core.Bool.{false}
-use Prim.Native.Nat.{ℕ, _-_, _≤_, _<_}
-use native.Mathlib.Omega.{arith}
-use Rattle.equation.specs.Window.{failsIn}
-use Rattle.xor.proofs.Cases.{by-equal}
+-- `equation::first_failing` meets its contract. Where nothing is shared any bytes will do for it.
+use mathlib.Core.Path.{sym, _∙_}
+use borrow.Author.Tests.{not-true}
+use Rattle.equation.proofs.Windows.{unshared}
 use borrow.Author.Needs.{needs}
 use Rattle.equation.proofs.first_failing.Statement.{statement}
 use Rattle.equation.proofs.first_failing.Tie as tie
 
-abbrev Inv-loop : tie.InvT-loop
-Inv-loop shape stripe at n count q₀ q = (q ≤ count) × ((k : ℕ) → k < q → failsIn shape stripe k at n ≡ false)
+shares-requires : tie.Need-shares-requires
+shares-requires c κs = search needs
 
-abbrev μ-loop : tie.MeasureT-loop
-μ-loop shape stripe at n count q₀ q = count - q
+first-failing-with-requires : tie.Need-first-failing-with-requires
+first-failing-with-requires c κs = (c .before .before .before .pre, unshared (c .before .before .before .args .shape) _ _ _ (sym (c .before .shares .ensures) ∙ not-true _ (c .if1 .taken)) _)
 
-equation-count-requires : tie.Need-equation-count-requires Inv-loop μ-loop
-equation-count-requires c κs = c .before .pre .formed
+returns : tie.Need-returns
+returns c = search needs
 
-loop-holds : tie.Need-loop-holds Inv-loop μ-loop
-loop-holds c = (omega arith, λ k l. absurd (omega arith))
+slice-aggregate-put-shared : tie.Need-slice-aggregate-put-shared
+slice-aggregate-put-shared c = search needs
 
-fails-requires : tie.Need-fails-requires Inv-loop μ-loop
-fails-requires c κs = search needs
+put-shared-requires : tie.Need-put-shared-requires
+put-shared-requires c κs = search needs
 
-returns : tie.Need-returns Inv-loop μ-loop
-returns c = record {
-  most = omega (arith, c .before .before .before .before .equation-count .ensures);
-  passes = λ l. sym (c .before .fails .ensures) ∙ c .if1 .taken;
-  before = c .before .before .before .loop .inv .1;
-}
+slice-aggregate-first-failing-with : tie.Need-slice-aggregate-first-failing-with
+slice-aggregate-first-failing-with c = search needs
 
-add-q : tie.Need-add-q Inv-loop μ-loop
-add-q c = search needs
+first-failing-with-requires-2 : tie.Need-first-failing-with-requires-2
+first-failing-with-requires-2 c κs = search needs
 
-loop-less : tie.Need-loop-less Inv-loop μ-loop
-loop-less c = omega arith
-
-loop-again : tie.Need-loop-again Inv-loop μ-loop
-loop-again c =
-    let a = c .before .before .before .before .before .before .args in
-    (omega arith, λ k l. by-equal k _ (λ e. ap (λ (r : ℕ). failsIn (a .shape) (a .stripe .now) r (a .at) (a .n)) e ∙ sym (c .before .fails .ensures) ∙ c .if1 .left) (λ n. c .before .before .before .loop .inv .1 k (omega arith)))
-
-returns-2 : tie.Need-returns-2 Inv-loop μ-loop
-returns-2 c = record {
-  most = omega (arith, c .before .before .equation-count .ensures);
-  passes = λ l. absurd (omega (arith, c .before .before .equation-count .ensures));
-  before = λ k l. c .before .loop .inv .1 k (omega arith);
-}
+returns-2 : tie.Need-returns-2
+returns-2 c = search needs
 
 pub first-failing-spec : {M : Type 1} → statement M
 first-failing-spec =
     tie.close
     (tie.spec
-    Inv-loop
-    μ-loop
-    equation-count-requires
-    loop-holds
-    fails-requires
+    shares-requires
+    first-failing-with-requires
     returns
-    add-q
-    loop-less
-    loop-again
+    slice-aggregate-put-shared
+    put-shared-requires
+    slice-aggregate-first-failing-with
+    first-failing-with-requires-2
     returns-2)

@@ -1,48 +1,45 @@
--- `equation::put_total` meets its contract. The places are those of all the equation's cells, so their runs sum to the total.
-use mathlib.Core.Path.{refl, sym}
+-- `equation::put_total` meets its contract. What the equation has by itself is put first; then what it takes in is added.
+use mathlib.Core.Path.{sym, _∙_}
 use native.Mathlib.Omega.{arith}
-use Rattle.equation.proofs.Windows.{held-long, held-inside, total-put}
+use borrow.Author.Tests.{not-true, not-false}
+use Rattle.codes.proofs.Shared.{takes-shares}
+use Rattle.equation.proofs.Windows.{total-plain, total-shared}
 use borrow.Author.Needs.{needs}
 use Rattle.equation.proofs.put_total.Statement.{statement}
 use Rattle.equation.proofs.put_total.Tie as tie
 
-cells-of-requires : tie.Need-cells-of-requires
-cells-of-requires c κs = (c .before .before .before .pre .0 .formed, c .before .before .before .pre .1, refl)
+put-own-requires : tie.Need-put-own-requires
+put-own-requires c κs = search needs
 
-array-share-prefix-places : tie.Need-array-share-prefix-places
-array-share-prefix-places c = omega (arith, c .before .cells-of .ensures .few, c .before .cells-of .ensures .long)
-
-slice-aggregate-put-sum-from : tie.Need-slice-aggregate-put-sum-from
-slice-aggregate-put-sum-from c =
-    let start = c .before .before .before .before .before .before in
-    sym (held-long (start .args .shape) (start .args .stripe .now) (start .args .at) (start .args .n) (start .pre .0) (start .args .q) _ _ (c .before .before .cells-of .ensures))
-
-put-sum-from-requires : tie.Need-put-sum-from-requires
-put-sum-from-requires c κs =
-    let start = c .before .before .before .before .before .before in
-    let a = start .args in
-    let w = start .pre .0 in (
-      held-inside (a .shape) (a .stripe .now) (a .at) (a .n) w (a .q) _ _ (c .before .before .cells-of .ensures),
-      start .pre .2,
-      omega (arith, w .ends, w .formed .cellHigh),
-    )
+takes-shared-requires : tie.Need-takes-shared-requires
+takes-shared-requires c κs = search needs
 
 same-length : tie.Need-same-length
 same-length c = search needs
 
 returns : tie.Need-returns
-returns c =
-    let start = c .before .before .before .before .before .before .before .before .before in
-    let a = start .args in
-    total-put (a .shape) (a .stripe .now) (a .at) (a .n) (start .pre .0) (a .q) _ _ (c .before .before .before .before .before .cells-of .ensures) _ _ (a .to) (c .before .before .put-sum-from .ensures)
+returns c = let a = c .before .before .before .before .before .before .before .before .before in total-plain (a .args .shape) (a .args .stripe .now) (a .args .at) (a .args .n) (a .pre .0 .formed) (a .args .q) (sym (c .before .takes-shared .ensures) ∙ not-true _ (c .if1 .taken)) _ _ (a .args .to) (c .before .before .before .before .put-own .ensures)
+
+add-shared-requires : tie.Need-add-shared-requires
+add-shared-requires c κs = let a = c .before .before .before .before .before .before .before .before .before .before in (omega (arith, a .pre .2, c .before .before .before .before .before .put-own .ensures .long), a .pre .3 .long (takes-shares (a .args .shape) (a .args .q) (sym (c .before .before .takes-shared .ensures) ∙ not-false _ (c .before .if1 .left))))
+
+same-length-2 : tie.Need-same-length-2
+same-length-2 c = search needs
+
+returns-2 : tie.Need-returns-2
+returns-2 c =
+    let a = c .before .before .before .before .before .before .before .before .before .before .before .before .before in
+    let takes = sym (c .before .before .before .before .before .takes-shared .ensures) ∙ not-false _ (c .before .before .before .before .if1 .left) in
+    total-shared (a .args .shape) (a .args .stripe .now) (a .args .at) (a .args .n) (a .pre .0 .formed) (a .args .q) takes (a .args .shared .now) (a .pre .3) _ _ _ (a .args .to) (c .before .before .before .before .before .before .before .before .put-own .ensures) (c .before .before .add-shared .ensures)
 
 pub put-total-spec : {M : Type 1} → statement M
 put-total-spec =
     tie.close
     (tie.spec
-    cells-of-requires
-    array-share-prefix-places
-    slice-aggregate-put-sum-from
-    put-sum-from-requires
+    put-own-requires
+    takes-shared-requires
     same-length
-    returns)
+    returns
+    add-shared-requires
+    same-length-2
+    returns-2)

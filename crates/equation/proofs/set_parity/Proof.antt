@@ -1,48 +1,62 @@
--- `equation::set_parity` meets its contract. The window of the parity cell becomes the XOR of those of the cells that the equation sums.
-use mathlib.Core.Path.{sym, refl}
-use Rattle.equation.proofs.Windows.{used-long, used-inside, used-apart, parity-ends, parity-set}
+-- `equation::set_parity` meets its contract. The equation's own cells are summed first; then what it takes in is added.
+use mathlib.Core.Path.{sym, _∙_}
+use native.Mathlib.Omega.{arith}
+use borrow.Author.Tests.{not-true, not-false}
+use Rattle.codes.specs.Encoded.{parityCell}
+use Rattle.codes.proofs.Ordered.{ordered}
+use Rattle.codes.proofs.Geometry.{place-inside, parity-there}
+use Rattle.codes.proofs.Walked.{parity-small}
+use Rattle.codes.proofs.Shared.{takes-shares}
+use Rattle.equation.proofs.Windows.{kept-window, parity-more, set-plain, set-shared}
 use borrow.Author.Needs.{needs}
 use Rattle.equation.proofs.set_parity.Statement.{statement}
 use Rattle.equation.proofs.set_parity.Tie as tie
 
-sources-of-requires : tie.Need-sources-of-requires
-sources-of-requires c κs = (c .before .before .pre .0 .formed, c .before .before .pre .1, refl)
+set-own-requires : tie.Need-set-own-requires
+set-own-requires c κs = search needs
 
-array-share-prefix-places : tie.Need-array-share-prefix-places
-array-share-prefix-places c = search needs
-
-slice-aggregate-put-sum : tie.Need-slice-aggregate-put-sum
-slice-aggregate-put-sum c =
-    let start = c .before .before .before .before .before in
-    sym (used-long (start .args .shape) (start .args .stripe .now) (start .args .at) (start .args .n) (start .pre .0) (start .args .q) _ _ (c .before .before .sources-of .ensures))
-
-put-sum-requires : tie.Need-put-sum-requires
-put-sum-requires c κs =
-    let start = c .before .before .before .before .before in
-    let a = start .args in
-    let found = c .before .before .sources-of .ensures in
-    let w = start .pre .0 in (
-      used-inside (a .shape) (a .stripe .now) (a .at) (a .n) w (a .q) _ _ found,
-      used-apart (a .shape) (a .stripe .now) (a .at) (a .n) w (a .q) _ _ found,
-      parity-ends (a .shape) (a .stripe .now) (a .at) (a .n) w (a .q) _ _ found,
-    )
+takes-shared-requires : tie.Need-takes-shared-requires
+takes-shared-requires c κs = search needs
 
 same-length : tie.Need-same-length
 same-length c = search needs
 
 returns : tie.Need-returns
-returns c =
-    let start = c .before .before .before .before .before .before .before .before in
-    let a = start .args in
-    parity-set (a .shape) (a .stripe .now) (a .at) (a .n) (start .pre .0) (a .q) _ _ (c .before .before .before .before .before .sources-of .ensures) (start .pre .1) _ (c .before .before .put-sum .ensures)
+returns c = let a = c .before .before .before .before .before .before .before .before in set-plain (a .args .shape) (a .args .stripe .now) (a .args .at) (a .args .n) (a .pre .0 .formed) (a .args .q) (sym (c .before .takes-shared .ensures) ∙ not-true _ (c .if1 .taken)) _ (c .before .before .before .before .set-own .ensures)
+
+parity-place-requires : tie.Need-parity-place-requires
+parity-place-requires c κs = search needs
+
+add-to : tie.Need-add-to
+add-to c = let a = c .before .before .before .before .before .before .before .before .before in omega (arith, c .parity-place .ensures, parity-small (a .args .shape) (a .pre .0 .formed) (a .args .q) (a .pre .1), a .pre .0 .ends, a .pre .0 .formed .cellHigh)
+
+add-shared-requires : tie.Need-add-shared-requires
+add-shared-requires c κs =
+    let a = c .before .before .before .before .before .before .before .before .before .before in (
+      omega (arith, c .before .parity-place .ensures, place-inside (a .args .shape) (a .pre .0 .formed) (parityCell (a .args .shape) (a .args .q)) (ordered (a .args .shape) (a .pre .0 .formed) .inside (a .args .q) (a .pre .1)) (parity-there (a .args .shape) (a .pre .0 .formed) (a .args .q) (a .pre .1)), c .before .before .before .before .before .before .set-own .ensures .long, a .pre .0 .long, a .pre .0 .ends),
+      omega (arith, a .pre .2 .long (takes-shares (a .args .shape) (a .args .q) (sym (c .before .before .before .takes-shared .ensures) ∙ not-false _ (c .before .before .if1 .left)))),
+    )
+
+same-length-2 : tie.Need-same-length-2
+same-length-2 c = search needs
+
+returns-2 : tie.Need-returns-2
+returns-2 c =
+    let a = c .before .before .before .before .before .before .before .before .before .before .before .before .before in
+    let takes = sym (c .before .before .before .before .before .before .takes-shared .ensures) ∙ not-false _ (c .before .before .before .before .before .if1 .left) in
+    set-shared (a .args .shape) (a .args .stripe .now) (a .args .at) (a .args .n) (a .pre .0 .formed) (a .args .q) takes (a .args .shared .now) (a .pre .2) _
+    (parity-more (a .args .shape) _ (a .args .at) (a .args .n) (kept-window (a .args .shape) (a .args .stripe .now) _ (a .args .at) (a .args .n) (a .pre .0) (c .before .before .before .before .before .before .before .before .before .set-own .ensures .long)) (a .args .q) (a .pre .1) _ (c .before .before .before .before .parity-place .ensures) _ _ _ _ (c .before .before .before .before .before .before .before .before .before .set-own .ensures) (c .before .before .add-shared .ensures))
 
 pub set-parity-spec : {M : Type 1} → statement M
 set-parity-spec =
     tie.close
     (tie.spec
-    sources-of-requires
-    array-share-prefix-places
-    slice-aggregate-put-sum
-    put-sum-requires
+    set-own-requires
+    takes-shared-requires
     same-length
-    returns)
+    returns
+    parity-place-requires
+    add-to
+    add-shared-requires
+    same-length-2
+    returns-2)

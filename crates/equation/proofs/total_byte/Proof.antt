@@ -1,43 +1,27 @@
--- `equation::total_byte` meets its contract. The XOR of the runs of the equation's cells is its total in each byte.
-use mathlib.Core.Path.{refl, sym, _∙_}
-use Prim.Native.Nat.{_+_}
-use native.Mathlib.Omega.{arith}
-use lib.ListN.{length}
-use Rattle.xor.proofs.Runs.{shorter}
-use Rattle.equation.proofs.Windows.{whole, held-long, held-inside, held-sum}
+-- `equation::total_byte` meets its contract. What the equation has by itself, and what it takes in.
+use mathlib.Core.Path.{sym, ap₂, _∙_}
+use Rattle.xor.specs.Xor.{_⊕_}
+use Rattle.equation.specs.Window.{bytesAt}
+use Rattle.codes.proofs.Shared.{takes-shares, own-total, shared-total}
 use borrow.Author.Needs.{needs}
 use Rattle.equation.proofs.total_byte.Statement.{statement}
 use Rattle.equation.proofs.total_byte.Tie as tie
 
-cells-of-requires : tie.Need-cells-of-requires
-cells-of-requires c κs = search needs
+own-byte-requires : tie.Need-own-byte-requires
+own-byte-requires c κs = search needs
 
-array-share-prefix-places : tie.Need-array-share-prefix-places
-array-share-prefix-places c = search needs
-
-slice-aggregate-sum-byte : tie.Need-slice-aggregate-sum-byte
-slice-aggregate-sum-byte c =
-    let start = c .before .before .before .before in
-    sym (held-long _ _ _ _ (whole (start .args .shape) (start .args .stripe .now) (start .pre .0) (start .pre .1)) _ _ _ (c .before .cells-of .ensures))
-
-sum-byte-requires : tie.Need-sum-byte-requires
-sum-byte-requires c κs =
-    let start = c .before .before .before .before in
-    let inside = held-inside _ _ _ _ (whole (start .args .shape) (start .args .stripe .now) (start .pre .0) (start .pre .1)) _ _ _ (c .before .cells-of .ensures) in
-    shorter (length (start .args .stripe .now)) _ (0 + start .args .shape .cell) _ _ inside refl (omega arith)
+takes-shared-requires : tie.Need-takes-shared-requires
+takes-shared-requires c κs = search needs
 
 returns : tie.Need-returns
+unfolding _⊕_
 returns c =
-    let start = c .before .before .before .before .before in
-    c .sum-byte .ensures
-    ∙ held-sum _ _ _ _ (whole (start .args .shape) (start .args .stripe .now) (start .pre .0) (start .pre .1)) _ _ _ (c .before .before .cells-of .ensures) (start .args .t)
+    let a = c .before .before .before .before in
+    let takes = sym (c .before .takes-shared .ensures) ∙ c .if1 .taken in
+    ap₂ _⊕_ (c .before .before .own-byte .ensures) (a .pre .4 (takes-shares (a .args .shape) (a .args .q) takes)) ∙ shared-total (a .args .shape) (a .pre .0) (a .args .q) takes (bytesAt (a .args .shape) (a .args .stripe .now) (a .args .t))
+
+returns-2 : tie.Need-returns-2
+returns-2 c = let a = c .before .before .before .before in c .before .before .own-byte .ensures ∙ own-total (a .args .shape) (a .args .q) (sym (c .before .takes-shared .ensures) ∙ c .if1 .left) (bytesAt (a .args .shape) (a .args .stripe .now) (a .args .t))
 
 pub total-byte-spec : {M : Type 1} → statement M
-total-byte-spec =
-    tie.close
-    (tie.spec
-    cells-of-requires
-    array-share-prefix-places
-    slice-aggregate-sum-byte
-    sum-byte-requires
-    returns)
+total-byte-spec = tie.close (tie.spec own-byte-requires takes-shared-requires returns returns-2)

@@ -4,7 +4,7 @@ use Prim.Native.Nat.{_+_, _-_, _≤_, _<_}
 use native.Mathlib.Omega.{arith}
 use Rattle.codes.specs.Shape.{disks}
 use Rattle.codes.specs.Geometry.{columnOf}
-use Rattle.codes.proofs.Shapes.{columns-high, disks-high}
+use Rattle.codes.proofs.Shapes.{mostColumns, columns-high, disks-high}
 use Rattle.plan.specs.Plan.{columnReads}
 use Rattle.plan.specs.Right.{RdpColumn}
 use Rattle.plan.proofs.Column.{lying}
@@ -34,8 +34,8 @@ column-reads-requires c κs =
     let at : c .before .before .loop .d < disks (b .args .shape) = omega (arith, c .before .before .before .disk-count .ensures) in
     (b .pre .0, b .pre .1, subst (RdpColumn (b .args .shape)) (sym (c .column-of .ensures)) (lying (b .args .shape) _ (b .pre .0 .formed, b .pre .0 .rdp, at)))
 
--- there are at most 32 columns of at most 31 rows
-wide : (c : tie.After-disk-count Inv-loop μ-loop) → c .disk-count .result ≤ 32
+-- the columns are few, and so are their rows
+wide : (c : tie.After-disk-count Inv-loop μ-loop) → c .disk-count .result ≤ mostColumns
 wide c = let b = c .before in omega (arith, c .disk-count .ensures, disks-high (b .args .shape) (b .pre .0 .formed), columns-high (b .args .shape) (b .pre .0 .formed))
 
 add-reads : tie.Need-add-reads Inv-loop μ-loop

@@ -1,56 +1,56 @@
--- `stripe::set_parities` meets its contract. The loop's invariant: the parity cells of the first q equations are set, one after the other.
-use mathlib.Core.Path.{_∙_}
-use Prim.Native.Nat.{_-_, _≤_}
-use native.Mathlib.Omega.{arith}
-use Rattle.equation.proofs.Windows.{whole}
-use Rattle.stripe.proofs.Encoding.{Settled, settled-none, settled-more, settled-all}
+-- `stripe::set_parities` meets its contract. Where nothing is shared any bytes will do for it.
+use mathlib.Core.Path.{sym, _∙_}
+use borrow.Author.Tests.{not-true}
+use Rattle.equation.proofs.Windows.{unshared}
 use borrow.Author.Needs.{needs}
 use Rattle.stripe.proofs.set_parities.Statement.{statement}
 use Rattle.stripe.proofs.set_parities.Tie as tie
 
-abbrev Inv-loop : tie.InvT-loop
-Inv-loop shape stripe₀ cell n q₀ stripe q = (q ≤ n) × Settled shape q stripe₀ stripe
+shares-requires : tie.Need-shares-requires
+shares-requires c κs = search needs
 
-abbrev μ-loop : tie.MeasureT-loop
-μ-loop shape stripe₀ cell n q₀ stripe q = n - q
+slice-aggregate-set-parities-with : tie.Need-slice-aggregate-set-parities-with
+slice-aggregate-set-parities-with c = search needs
 
-equation-count-requires : tie.Need-equation-count-requires Inv-loop μ-loop
-equation-count-requires c κs = search needs
+set-parities-with-requires : tie.Need-set-parities-with-requires
+set-parities-with-requires c κs = let a = c .before .before .before .before .before in (a .pre .0, a .pre .1, unshared (a .args .shape) _ _ _ (sym (c .before .before .before .shares .ensures) ∙ not-true _ (c .before .before .if1 .taken)) _)
 
-loop-holds : tie.Need-loop-holds Inv-loop μ-loop
-loop-holds c = (omega arith, settled-none _ _)
+same-length : tie.Need-same-length
+same-length c = search needs
 
-set-parity-requires : tie.Need-set-parity-requires Inv-loop μ-loop
-set-parity-requires c κs =
-    let start = c .before .before .before .before .before in
-    (whole _ _ (start .pre .0) (c .before .before .loop .inv .1 .long ∙ start .pre .1), omega (arith, c .before .before .before .equation-count .ensures))
+returns : tie.Need-returns
+returns c = search needs
 
-add-q : tie.Need-add-q Inv-loop μ-loop
-add-q c = search needs
+slice-aggregate-put-shared : tie.Need-slice-aggregate-put-shared
+slice-aggregate-put-shared c = search needs
 
-loop-less : tie.Need-loop-less Inv-loop μ-loop
-loop-less c = omega arith
+put-shared-requires : tie.Need-put-shared-requires
+put-shared-requires c κs = search needs
 
-loop-again : tie.Need-loop-again Inv-loop μ-loop
-loop-again c = (omega arith, settled-more _ (c .before .before .before .before .before .before .before .before .pre .0) _ _ _ _ (omega (arith, c .before .before .before .before .before .before .equation-count .ensures)) (c .before .before .before .before .before .loop .inv .1) (c .before .before .set-parity .ensures))
+slice-aggregate-set-parities-with-2 : tie.Need-slice-aggregate-set-parities-with-2
+slice-aggregate-set-parities-with-2 c = search needs
 
-same-length : tie.Need-same-length Inv-loop μ-loop
-same-length c = c .before .loop .inv .1 .long
+set-parities-with-requires-2 : tie.Need-set-parities-with-requires-2
+set-parities-with-requires-2 c κs = search needs
 
-returns : tie.Need-returns Inv-loop μ-loop
-returns c = settled-all _ (c .before .before .before .before .pre .0) _ _ _ (c .before .loop .inv .1) (omega (arith, c .before .before .equation-count .ensures))
+same-length-2 : tie.Need-same-length-2
+same-length-2 c = search needs
+
+returns-2 : tie.Need-returns-2
+returns-2 c = search needs
 
 pub set-parities-spec : {M : Type 1} → statement M
 set-parities-spec =
     tie.close
     (tie.spec
-    Inv-loop
-    μ-loop
-    equation-count-requires
-    loop-holds
-    set-parity-requires
-    add-q
-    loop-less
-    loop-again
+    shares-requires
+    slice-aggregate-set-parities-with
+    set-parities-with-requires
     same-length
-    returns)
+    returns
+    slice-aggregate-put-shared
+    put-shared-requires
+    slice-aggregate-set-parities-with-2
+    set-parities-with-requires-2
+    same-length-2
+    returns-2)

@@ -2,7 +2,7 @@
 use native.Mathlib.Nat.{mul-le-mul}
 use native.Mathlib.Omega.{arith}
 use Prim.Native.Nat.{_+_, _*_, _≤_}
-use Rattle.codes.proofs.Shapes.{existing-high, cells-high}
+use Rattle.codes.proofs.Shapes.{mostCells, existing-high, cells-high}
 use Rattle.codes.proofs.Geometry.{lent-at, lent-number}
 use borrow.Author.Needs.{needs}
 use Rattle.codes.proofs.layout.lent_place.Statement.{statement}
@@ -12,7 +12,7 @@ row-count-requires : tie.Need-row-count-requires
 row-count-requires c κs = search needs
 
 -- the number of the cell is small
-few : (c : tie.After-row-count) → let s = c .before in s .args .d * c .row-count .result + s .args .row ≤ 961
+few : (c : tie.After-row-count) → let s = c .before in s .args .d * c .row-count .result + s .args .row ≤ mostCells
 few c =
     let s = c .before in
     omega (arith, lent-number (s .args .shape) (s .pre .0) (s .args .row) (s .args .d) _ (c .row-count .ensures) (s .pre .1) (s .pre .2), existing-high (s .args .shape) (s .pre .0), cells-high (s .args .shape) (s .pre .0))
