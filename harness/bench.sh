@@ -5,13 +5,14 @@
 # bytes are wrong, since nothing wrong is measured: the C is compared with the independent
 # second program, the library with the C on all that is measured, and peers are checked.
 #
-#   harness/bench.sh [--quick] [--counts] [--only CALLS] [--lib FILE] [--keep FOLDER]
+#   harness/bench.sh [--quick] [--counts] [--only CALLS] [--codes CODES] [--lib FILE] [--keep FOLDER]
 #
 #   --quick       p = 5, 17 and 31; cells of 512 and 4,096 bytes
 #   --counts      instructions only, no times
 #   --only CALLS  some calls, named as in the tables, and deciding; rebuild is two-columns,
 #                 one-column, four-cells, clean, bad-column and deciding, with encode and
 #                 broken for their bars
+#   --codes CODES some codes, by their numbers; for EVENODD's bars it takes '1 2 4'
 #   --lib FILE    measures FILE in place of what `rt staticlib zijraduf` makes
 #   --keep FOLDER leaves the driver and the figures there
 #
@@ -23,6 +24,7 @@ ROOT=$(cd "$(dirname "$0")/.." && pwd)
 # The calls are the rows of the table in calls.c. Of some only the stack is measured.
 primes='5 7 17 31'
 cells='512 1000 4096'
+codes='1 2 3 4'
 short='1m4 17' # RDP with four data columns
 rebuild='two-columns one-column four-cells clean bad-column deciding'
 stack_only='plan show job'
@@ -49,6 +51,12 @@ while [ $# -gt 0 ]; do
     --only)
         want_known "${2:?--only wants calls}"
         only=$(echo "$2" | sed "s/rebuild/encode broken $rebuild/") && shift
+        ;;
+    --codes)
+        case ${2:?--codes wants numbers} in
+        *[!1-4\ ]*) echo "bench: the codes are $codes" >&2 && exit 2 ;;
+        esac
+        codes=$2 && shift
         ;;
     --lib) lib=$(realpath "${2:?--lib wants a file}") && shift ;;
     --keep) mkdir -p "${2:?--keep wants a folder}" && keep=$(realpath "$2") && shift ;;
@@ -253,7 +261,7 @@ measure() {
 }
 
 measure_all() {
-    for code in 1 2 3; do
+    for code in $codes; do
         for p in $primes; do
             for cell in $cells; do
                 [ -z "$of_all" ] || measure $code "$p" "$cell" $of_all >>"$figures"
@@ -263,6 +271,10 @@ measure_all() {
         *deciding*) measure $code 31 1 deciding >>"$figures" ;;
         esac
     done
+    case $codes in
+    *1*) ;;
+    *) return 0 ;;
+    esac
     for cell in $cells; do
         [ -z "$of_all" ] || measure $short "$cell" $of_all >>"$figures"
     done
@@ -306,9 +318,10 @@ header() {
     [ -z "$EMULATOR" ] || echo "  Above p = 17 its decoding is not counted: the emulator takes too long."
     echo "- snapraid: raid_scan beside bad column, a byte at a time by tables, on as many data blocks as the code has data columns and two"
     echo "  parities, with a middle block bad."
-    echo "- Write: a data cell in the middle, with three dependent parity cells for RDP and two for the others."
-    echo "- Two columns: 0 and 1; of the other pairs none takes 3 %, with m = 4 none 4 % more instructions. One column: 0. Four cells: in four"
-    echo "  columns and four rows."
+    echo "- Write: a data cell in the middle, with three dependent parity cells for RDP and two for the others. Write-many: one of EVENODD's"
+    echo "  data cells with p of them."
+    echo "- Two columns: 0 and 1; of the other pairs none takes 3 %, with m = 4 none 4 % more instructions, and of EVENODD none 3 % in C."
+    echo "  One column: 0. Four cells: in four columns and four rows."
     echo "  Clean: no cell is lost, and the stripe is encoded. Bad column: the middle one, every byte of it bad."
     echo "- Run: all rows of the lost column 1 of RDP into a spare by the library's plan, made before; run-rows: by rows alone."
     echo "  No other column takes 1 % more instructions, with m = 4 none 9 %. With m below p - 1 a plan may read more than rows alone do."

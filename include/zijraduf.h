@@ -1,4 +1,4 @@
-/* zijraduf: parity for stripes of RDP, H-Code and X-Code, proved.
+/* zijraduf: parity for stripes of RDP, H-Code, X-Code and EVENODD, proved.
  *
  * Link libzijraduf.a (x86-64 Linux; it needs memcpy and memset). The library
  * keeps no state, allocates nothing and takes no locks. A call that writes
@@ -13,6 +13,7 @@
  *     1     RDP      p - 1  p + 1    2 (p - 1)
  *     2     H-Code   p - 1  p + 1    2 (p - 1)
  *     3     X-Code   p      p        2 p
+ *     4     EVENODD  p - 1  p + 2    2 (p - 1)
  *
  * p is one of 3 5 7 11 13 17 19 23 29 31, and `cell` is 1 to 4,096. The stripe
  * lies column after column, rows from 0 inside a column: cell number =
@@ -35,7 +36,7 @@
  * that was lent is as it was (a job's refusal is its answer, which goes into the
  * output):
  *
- *     1   code is not 1, 2 or 3
+ *     1   code is not 1 to 4
  *     2   p is not in the list above
  *     14  m is given and is not 1 to p - 1, or is given for another code than RDP
  *     3   plan, run or show for another code than RDP
@@ -69,7 +70,7 @@ extern "C" {
 /* What describes a stripe. It goes by value into every call on a stripe. Where the
  * last two are left 0, as in { .code = 1, .p = 5, .cell = 512 }, no m is given. */
 struct zijraduf_shape {
-    uint64_t code;       /* 1 RDP, 2 H-Code, 3 X-Code */
+    uint64_t code;       /* 1 RDP, 2 H-Code, 3 X-Code, 4 EVENODD */
     uint64_t p;          /* the prime */
     uint64_t cell;       /* bytes in a cell */
     uint64_t data_given; /* 0 no m is given, anything else m is `data` */
@@ -101,7 +102,8 @@ struct zijraduf_count zijraduf_broken(struct zijraduf_shape shape, const uint8_t
  * bytes found in the cell are taken as its old content: rebuild a lost cell before
  * you write to it.
  * Gives how many parity cells depend on this position, whatever the bytes: 2 for
- * H-Code and X-Code; for RDP 2 where row = 0 or row + column = p - 1, else 3.
+ * H-Code and X-Code; for RDP 2 where row = 0 or row + column = p - 1, else 3; for
+ * EVENODD p where row + column = p - 1, else 2.
  * Or refusal 1, 2, 14, 4, 5, 6, 7 or 8, with every byte as it was. */
 struct zijraduf_count zijraduf_write(struct zijraduf_shape shape, uint8_t *stripe, size_t length,
                                      uint64_t row, uint64_t column,

@@ -18,10 +18,13 @@ static void take_count(struct zijraduf_count came)
 static void encode(uint8_t *m) { answer.refusal = SAME(encode)(hand.shape, m, hand.length); }
 static void broken(uint8_t *m) { take_count(SAME(broken)(hand.shape, m, hand.length)); }
 
-static void write_cell(uint8_t *m)
+static void write_in(uint8_t *m, uint64_t column)
 {
-    take_count(SAME(write)(hand.shape, m, hand.length, hand.row, hand.column, hand.new_bytes, hand.shape.cell));
+    take_count(SAME(write)(hand.shape, m, hand.length, hand.row, column, hand.new_bytes, hand.shape.cell));
 }
+
+static void write_cell(uint8_t *m) { write_in(m, hand.column); }
+static void write_many(uint8_t *m) { write_in(m, hand.many_column); }
 
 static void rebuild_columns(uint8_t *m, uint64_t a, uint64_t b)
 {
@@ -86,6 +89,7 @@ const struct row SAME(rows)[] = {
     {"encode", always, &any, encode, data_bytes, .answer = &none},
     {"broken", always, &encoded, broken, data_bytes, .answer = &none},
     {"write", always, &encoded, write_cell, cell_bytes, .answer = &hand.parities},
+    {"write-many", has_many, &encoded, write_many, cell_bytes, .answer = &hand.shape.p},
     {"two-columns", always, &two_lost, two_columns, data_bytes, .answer = &none},
     {"one-column", always, &one_lost, one_column, data_bytes, .answer = &none},
     {"four-cells", always, &four_lost, four_cells, data_bytes, .answer = &none},

@@ -6,13 +6,20 @@
 struct hand hand;
 volatile struct answer answer;
 
+/* How many data columns hold as much as the code's data cells. */
+static uint64_t sources_of(struct zijraduf_shape shape)
+{
+    if (shape.data_given)
+        return shape.data;
+    return shape.code == 3 ? shape.p - 2 : shape.code == 4 ? shape.p : shape.p - 1;
+}
+
 static void set_size(struct zijraduf_shape shape)
 {
-    uint64_t p = shape.p, is_x = shape.code == 3;
     hand.shape = shape;
-    hand.rows = is_x ? p : p - 1;
-    hand.columns = shape.data_given ? shape.data + 2 : is_x ? p : p + 1;
-    hand.sources = shape.data_given ? shape.data : is_x ? p - 2 : p - 1;
+    hand.rows = shape.code == 3 ? shape.p : shape.p - 1;
+    hand.sources = sources_of(shape);
+    hand.columns = hand.sources + 2;
     hand.column_bytes = hand.rows * shape.cell;
     hand.length = hand.columns * hand.column_bytes;
     hand.data_bytes = hand.sources * hand.column_bytes;
@@ -24,6 +31,7 @@ void set_shape(struct zijraduf_shape shape)
     set_size(shape);
     hand.row = shape.code == 3 ? (shape.p - 3) / 2 : shape.p / 2;
     hand.column = (shape.data_given ? shape.data - 1 : shape.p - 2) / 2;
+    hand.many_column = shape.p - 1 - hand.row;
     hand.parities = shape.code == 1 ? 3 : 2;
     hand.bad_column = hand.columns / 2;
     hand.lost_column = 1;

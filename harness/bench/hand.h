@@ -11,6 +11,7 @@ struct hand {
     struct zijraduf_shape shape;
     uint64_t rows, columns, length, column_bytes, data_bytes, sources;
     uint64_t row, column, parities, lost_cells[4], bad_column, lost_column, plan;
+    uint64_t many_column; /* of EVENODD: in the same row p parity cells depend on its cell, not 2 */
     uint64_t top_places[31];
     uint8_t new_bytes[4096];
 };

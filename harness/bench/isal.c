@@ -27,9 +27,12 @@ static size_t pieces_bytes(void) { return 3 * piece(); }
 
 /* ---- what it multiplies by, made ready ---- */
 
+/* The most sources that a code has. */
+#define SOURCES 31
+
 /* A processor may be given tables of its own form, which the SSE functions don't take. */
 struct tables {
-    uint8_t picked[2 * 30 * 32], plain[2 * 30 * 32];
+    uint8_t picked[2 * SOURCES * 32], plain[2 * SOURCES * 32];
 };
 static struct tables update_tables, decode_tables[3];
 
@@ -43,7 +46,7 @@ static void make_tables(struct tables *t, int k, int m, uint8_t *matrix)
  * rows of the inverse. */
 static void make_decode(int lost, int k, const uint8_t *matrix)
 {
-    static uint8_t left[30 * 30], inverse[30 * 30];
+    static uint8_t left[SOURCES * SOURCES], inverse[SOURCES * SOURCES];
     memcpy(left, matrix + k * k, lost * k);
     memcpy(left + lost * k, matrix + lost * k, (k - lost) * k);
     if (invert_matrix(left, inverse, k) != 0)
@@ -53,7 +56,7 @@ static void make_decode(int lost, int k, const uint8_t *matrix)
 
 static void make_all_tables(void)
 {
-    static uint8_t matrix[32 * 30];
+    static uint8_t matrix[(SOURCES + 2) * SOURCES];
     int k = hand.shape.p - 1;
     make_matrix(matrix, k + 2, k);
     make_tables(&update_tables, k, 2, matrix + k * k);
@@ -129,7 +132,7 @@ static void isal_write(uint8_t *m) { update_call(update, update_tables.picked, m
 
 static void decode_call(ec_encode *f, uint8_t *tables, size_t lost, uint8_t *m)
 {
-    uint8_t **all = (uint8_t **)vectors_at(m, vector()), *left[30];
+    uint8_t **all = (uint8_t **)vectors_at(m, vector()), *left[SOURCES];
     size_t k = hand.sources;
     for (size_t n = 0; n < k; n++)
         left[n] = n < lost ? all[k + n] : all[n];

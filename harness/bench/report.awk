@@ -68,7 +68,7 @@ function table(kind, title, list,    calls, n, c, r, w, wide, part, line, rule) 
 function tables(kind, title) {
     if (!(kind in kinds)) return
     printf "\n## %s\n", title
-    table(kind, "Encode, broken, write", "encode broken write")
+    table(kind, "Encode, broken, write", "encode broken write write-many")
     table(kind, "Rebuild and bad column", "two-columns one-column four-cells clean bad-column")
     table(kind, "Run by plan", "run run-rows")
 }
@@ -92,10 +92,10 @@ function deciding(    r, part, head) {
     for (r = 1; r <= count; r++) if (rows[r] ~ /^deciding/ && figure("instructions", rows[r], "ours") != "") {
         if (!head++) {
             printf "\n## Deciding: all instructions of two lost columns with cells of one byte\n\n"
-            print "| code   |  p |      ours |         C |    / C |"; print "|--------|---:|----------:|----------:|-------:|"
+            print "| code    |  p |      ours |         C |    / C |"; print "|---------|---:|----------:|----------:|-------:|"
         }
         split(rows[r], part, SUBSEP)
-        printf "| %-6s | %2d | %9d | %9d |%s\n", codes[part[2]], part[3], value["instructions", rows[r], "ours"], \
+        printf "| %-7s | %2d | %9d | %9d |%s\n", codes[part[2]], part[3], value["instructions", rows[r], "ours"], \
             value["instructions", rows[r], "c"], entry(ratio("instructions", rows[r], "c"), 2, 6)
     }
 }
@@ -128,10 +128,11 @@ function same_row(row, call, code, p,    part) {
 
 function by(a, b) { return a == "" || b == "" ? "" : a / b }
 
-# Whether a row is of a call, with all data columns, and of the shapes that bars are held in where `large` is set.
+# Whether a row is of a call and of the codes at hand, with all data columns, and of the shapes that bars are held in
+# where `large` is set.
 function is_of(row, call, large,    part) {
     split(row, part, SUBSEP)
-    return part[1] == call && part[2] !~ /m/ && \
+    return part[1] == call && part[2] ~ "^[" at_hand "]$" && \
         (!large || ((part[3] == 17 || part[3] == 31) && (part[4] == 512 || part[4] == 4096)))
 }
 
@@ -150,6 +151,30 @@ function bar_to(call, who, name, most, large,    r) {
 }
 
 function bar_to_c(call, most, large) { bar_to(call, "c", "the same algorithm in C", most, large) }
+
+# A call of ours to a call of ours of another code; where `by_p` is set, divided by p.
+function bar_to_code(call, other, code, name, most, large, by_p,    r, part, b) {
+    limit = most
+    for (r = 1; r <= count; r++) if (is_of(rows[r], call, large)) {
+        split(rows[r], part, SUBSEP)
+        b = figure(kind, same_row(rows[r], other, code, ""), "ours")
+        take(by(figure(kind, rows[r], "ours"), by_p && b != "" ? b * part[3] : b), rows[r])
+    }
+    judge(name)
+}
+
+function bar_over_p(call, most,    r) {
+    limit = most
+    for (r = 1; r <= count; r++) if (is_of(rows[r], call, 0) && rows[r] == same_row(rows[r], "", "", 31))
+        take(by(figure(kind, rows[r], "ours"), figure(kind, same_row(rows[r], "", "", 5), "ours")), rows[r])
+    judge(call " at p = 31 / at p = 5")
+}
+
+function bar_of_deciding(most,    r) {
+    limit = most
+    for (r = 1; r <= count; r++) if (is_of(rows[r], "deciding", 0)) take(value[kind, rows[r], "ours"], rows[r])
+    judge("deciding, instructions")
+}
 
 # A call of a shelf with fewer disks to the same call of RDP at p = 5 with all of them.
 function bar_to_small(call, most,    r, part) {
@@ -179,30 +204,27 @@ function bar_of_stack(call,    used) {
 END {
     split("ours c leaf sums isal-sse isal jerasure lazy snapraid memcpy", whos, " ")
     split("ours,C,leaf,sums,ISA-L SSE,ISA-L,Jerasure,lazy,snapraid,memcpy", heads, ",")
-    split("RDP,H-Code,X-Code", codes, ",")
+    split("RDP,H-Code,X-Code,EVENODD", codes, ",")
     tables("instructions", "Instructions per data byte, of write per byte of the cell, and ours as a multiple (less is better)")
     deciding()
     reads()
     tables("warm", "GB/s of data, warm, and ours as a multiple (more is better)")
     tables("cold", "GB/s of data, cold, and ours as a multiple (more is better)")
 
-    printf "\n## Bars\n\n"
+    printf "\n## Bars\n\nOf RDP, H-Code and X-Code:\n\n"
     kind = "instructions"
+    at_hand = "123"
     bar_to_c("encode", 1.05, 0)
     bar_of_row("encode" SUBSEP 1 SUBSEP 17 SUBSEP 4096, "RDP encode at p = 17, cell 4096, instructions a byte", 0.45)
     bar_of_row("encode" SUBSEP 1 SUBSEP 5 SUBSEP 512, "RDP encode at p = 5, cell 512, instructions a byte", 0.65)
-    limit = 1.25
-    for (r = 1; r <= count; r++) if (is_of(rows[r], "encode", 0) && rows[r] != same_row(rows[r], "", 1, ""))
-        take(by(figure(kind, rows[r], "ours"), figure(kind, same_row(rows[r], "", 1, ""), "ours")), rows[r])
-    judge("encode of H-Code and X-Code / of RDP")
+    at_hand = "23"
+    bar_to_code("encode", "encode", 1, "encode of H-Code and X-Code / of RDP", 1.25, 0, 0)
+    at_hand = "123"
     bar_to_call("broken", "encode", 1.15, 0)
     bar_to_c("write", 1.1, 0)
-    limit = 1.3
-    for (r = 1; r <= count; r++) if (is_of(rows[r], "write", 0) && rows[r] == same_row(rows[r], "", "", 31))
-        take(by(figure(kind, rows[r], "ours"), figure(kind, same_row(rows[r], "", "", 5), "ours")), rows[r])
-    judge("write at p = 31 / at p = 5")
+    bar_over_p("write", 1.3)
 
-    printf "\nOf p = 17 and 31, cells of 512 and 4,096 bytes:\n\n"
+    printf "\nOf these, p = 17 and 31, cells of 512 and 4,096 bytes:\n\n"
     bar_to_call("two-columns", "encode", 2.5, 1)
     bar_to_call("four-cells", "encode", 2.2, 1)
     bar_to_call("clean", "broken", 1.15, 1)
@@ -211,9 +233,24 @@ END {
     for (k = 1; k <= n; k++) bar_to_c(list[k], 1.1, 1)
     bar_to("run", "sums", "its (p - 1)^2 cell XORs by the leaf that sums runs", 1.05, 1)
     bar_to("run", "leaf", "its (p - 1)^2 cell XORs one at a time", "", 1)
-    limit = 400000
-    for (r = 1; r <= count; r++) if (is_of(rows[r], "deciding", 0)) take(value[kind, rows[r], "ours"], rows[r])
-    judge("deciding, instructions")
+    bar_of_deciding(400000)
+
+    printf "\nOf EVENODD, p = 17 and 31, cells of 512 and 4,096 bytes:\n\n"
+    at_hand = "4"
+    bar_to_code("encode", "encode", 1, "encode / of RDP", 1.25, 1, 0)
+    bar_to_call("broken", "encode", 1.25, 1)
+    bar_to_code("write", "write", 2, "write / of H-Code", 1.1, 1, 0)
+    bar_to_code("write-many", "write", 2, "write-many / p times write of H-Code", 0.5, 1, 1)
+    bar_to_call("two-columns", "encode", 3, 1)
+    bar_to_call("four-cells", "encode", 2.2, 1)
+    bar_to_call("clean", "broken", 1.15, 1)
+    bar_to_call("bad-column", "broken", 3.5, 1)
+    n = split("encode broken write write-many two-columns one-column four-cells clean bad-column", list, " ")
+    for (k = 1; k <= n; k++) bar_to_c(list[k], 1.1, 1)
+    bar_of_deciding(400000)
+
+    printf "\nOf EVENODD, all cells:\n\n"
+    bar_over_p("write", 1.3)
 
     printf "\nOf RDP with m = 4 data columns and p = 17, cells of 512 and 4,096 bytes:\n\n"
     bar_to_small("encode", 1.15)

@@ -43,9 +43,10 @@ static size_t stack_of(const struct row *row, uint8_t *stack)
 /* Over all shapes that have the call; RDP with half of its data columns too. */
 static size_t most_of(const struct row *row, uint8_t *stack)
 {
-    static const uint64_t codes[] = {1, 1, 2, 3}, primes[] = {3, 5, 7, 17, 31}, cells[] = {1, 100, 512, 1000, 4096};
+    static const uint64_t codes[] = {1, 1, 2, 3, 4}, primes[] = {3, 5, 7, 17, 31};
+    static const uint64_t cells[] = {1, 100, 512, 1000, 4096};
     size_t most = 0;
-    for (int c = 0; c < 4; c++)
+    for (int c = 0; c < 5; c++)
         for (int k = 0; k < 25; k++) {
             uint64_t p = primes[k / 5];
             set_shape((struct zijraduf_shape){codes[c], p, cells[k % 5], c == 0, p / 2});

@@ -11,6 +11,7 @@ static size_t spared_bytes(void) { return hand.length + hand.column_bytes; }
 static size_t job_bytes(void) { return ZIJRADUF_JOB_LONGEST + ZIJRADUF_ANSWER_LONGEST; }
 
 int always(void) { return 1; }
+int has_many(void) { return hand.shape.code == 4; }
 int has_spare(void) { return hand.shape.code == 1; }
 int has_job(void) { return !hand.shape.data_given && hand.length + 7 <= ZIJRADUF_ANSWER_LONGEST; }
 

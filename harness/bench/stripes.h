@@ -13,8 +13,9 @@ extern struct state job_lost;
 size_t job_length(void);
 
 /* Whether the shape has such a state: only RDP has a spare, a job gives no m, and the longest answer holds only short
- * stripes. */
+ * stripes. Of EVENODD many parity cells depend on some cells. */
 int always(void);
+int has_many(void);
 int has_spare(void);
 int has_job(void);
 

@@ -3,7 +3,7 @@
 
 use crate::cases::case::Row;
 use crate::cases::loans::{BYTES, LOST, SPARE, STRIPE};
-use crate::cases::{findings, jobs, rebuilds, runs};
+use crate::cases::{findings, jobs, rebuilds, runs, writes};
 use crate::second::call::{Answer, Lent, Operation, CLEAN, COLUMN, UNEXPLAINED};
 use crate::second::{encode, job, rebuild, spare, write};
 
@@ -37,6 +37,7 @@ pub static CALLS: &[Row] = &[
         answer: write::write,
         lends: &[STRIPE, BYTES],
         writes: the_stripe,
+        known: writes::known,
         list: |cases| cases.writes(),
         random: |cases| cases.random_write(),
         share: 1,

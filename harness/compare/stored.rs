@@ -4,7 +4,7 @@
 use crate::program::Program;
 use crate::random::Random;
 use crate::second::job;
-use crate::second::shapes::Second;
+use crate::second::shapes::{Second, CODES};
 use std::collections::BTreeMap;
 use std::fs;
 use std::path::{Path, PathBuf};
@@ -43,7 +43,7 @@ fn are_right(kits: &Kits) -> Result<(), String> {
     let mended = forgetting.iter().map(|(name, stored)| (name, stored.with_cell_512()));
     let jobs = night.iter().map(|(name, stored)| (name, stored.job.clone()));
     let answers = [0, 11, 12].map(|answer| night.values().any(|stored| stored.answer() == Some(answer)));
-    let mut shapes = (1..=3).flat_map(|code| [(code, 3), (code, 5)]);
+    let mut shapes = CODES.into_iter().flat_map(|code| [(code as u8, 3), (code as u8, 5)]);
     let holds = |rule: bool, broken: &str| rule.then_some(()).ok_or(broken.to_string());
     holds(answers == [true; 3], "night-kit: no job is 0, or none 11, or none 12")?;
     holds(mended.eq(jobs), "a job of forgetting-kit with field 03 = 512 is not night-kit's")?;

@@ -3,10 +3,11 @@
 #define SAME_DECIDE_H
 
 #include "equation.h"
+#include "evenodd.h"
 #include "shape.h"
 #include "solve.h"
 
-#define CELLS 961
+#define CELLS 990
 
 /* By rising number. Gives how many, one more than there are equations where more. */
 static uint64_t list_lost(struct zijraduf_shape shape, const uint8_t map[CELLS], uint64_t listed[SETS])
@@ -22,9 +23,24 @@ static uint64_t list_lost(struct zijraduf_shape shape, const uint8_t map[CELLS],
     return u;
 }
 
+[[clang::noinline]] static void hold_with(struct zijraduf_shape shape, const uint64_t listed[SETS],
+                                          uint64_t lost, uint64_t rows[SETS])
+{
+    uint64_t height = row_count(shape);
+    for (uint64_t k = 0; k < lost; k++) {
+        uint64_t c = listed[k], one = one_bit(k);
+        for (uint64_t rest = holders_with(shape, c % height, c / height); rest != 0; rest &= rest - 1)
+            rows[lowest_bit(rest)] ^= one;
+    }
+}
+
 /* For each equation the set of the lost cells that it holds. */
 static void hold_lost(struct zijraduf_shape shape, const uint64_t listed[SETS], uint64_t lost, uint64_t rows[SETS])
 {
+    if (shares(shape)) {
+        hold_with(shape, listed, lost, rows);
+        return;
+    }
     uint64_t height = row_count(shape), n = equation_count(shape);
     for (uint64_t k = 0; k < lost; k++) {
         uint64_t c = listed[k], one = one_bit(k);

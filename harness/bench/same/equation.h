@@ -84,15 +84,22 @@ static void place_steps(uint64_t *places, uint64_t count, uint64_t at, uint64_t 
 }
 
 /* A diagonal goes up from row d of column 0 to row 0 of column d. It has no cell of column d + 1, and goes on from the
- * last row of the column after that. All but the last diagonal have a cell of the row parity column. */
-static uint64_t place_diagonal(struct zijraduf_shape shape, uint64_t d, uint64_t places[PLACES])
+ * last row of the column after that. */
+static uint64_t place_slant(struct zijraduf_shape shape, uint64_t m, uint64_t d, uint64_t places[PLACES])
 {
-    uint64_t p = shape.p, m = shape.data, cell = shape.cell, step = (p - 2) * cell;
-    uint64_t above = d < m ? d + 1 : m, below = d + 2 < m ? m - d - 2 : 0, count = above + below;
+    uint64_t p = shape.p, cell = shape.cell, step = (p - 2) * cell;
+    uint64_t above = d < m ? d + 1 : m, below = d + 2 < m ? m - d - 2 : 0;
     place_steps(places, above, d * cell, step);
     place_steps(places + above, below, (p + d) * cell + (d + 2) * step, step);
+    return above + below;
+}
+
+/* All but the last diagonal have a cell of the row parity column. */
+static uint64_t place_diagonal(struct zijraduf_shape shape, uint64_t d, uint64_t places[PLACES])
+{
+    uint64_t p = shape.p, m = shape.data, count = place_slant(shape, m, d, places);
     if (d + 2 < p)
-        places[count++] = (m * (p - 1) + d + 1) * cell;
+        places[count++] = (m * (p - 1) + d + 1) * shape.cell;
     return count;
 }
 

@@ -4,6 +4,7 @@
 
 #include "decide.h"
 #include "equation.h"
+#include "evenodd.h"
 #include "xor.h"
 
 #define LANE 512
@@ -26,10 +27,35 @@ static void put_total(struct zijraduf_shape shape, const uint8_t *stripe, uint64
     [[clang::always_inline]] put_sum_from(lanes, q * LANE, stripe, places, count, at, n);
 }
 
+static void put_total_with(struct zijraduf_shape shape, const uint8_t *stripe, const uint8_t *shared,
+                           uint64_t q, size_t at, size_t n, uint8_t lanes[LANES])
+{
+    uint64_t places[PLACES] = {0};
+    uint64_t count = cells_with(shape, q, places);
+    [[clang::always_inline]] put_sum_from(lanes, q * LANE, stripe, places, count, at, n);
+    if (takes_shared(shape, q))
+        add_shared(lanes, q * LANE, shared, n);
+}
+
+[[clang::noinline]] static void put_totals_with(struct zijraduf_shape shape, const uint8_t *stripe,
+                                                uint64_t set, size_t at, size_t n, uint8_t lanes[LANES])
+{
+    uint8_t shared[LANE];
+    put_shared(shape, stripe, at, n, shared);
+    uint64_t members[SETS] = {0};
+    uint64_t count = list_members(set, 1, members);
+    for (uint64_t k = 0; k < count; k++)
+        put_total_with(shape, stripe, shared, members[k], at, n, lanes);
+}
+
 /* The totals of a set of equations, of the n bytes from `at` on. */
 static void put_totals(struct zijraduf_shape shape, const uint8_t *stripe, uint64_t set, size_t at, size_t n,
                        uint8_t lanes[LANES])
 {
+    if (shares(shape)) {
+        put_totals_with(shape, stripe, set, at, n, lanes);
+        return;
+    }
     uint64_t members[SETS] = {0};
     uint64_t count = list_members(set, 1, members);
     for (uint64_t k = 0; k < count; k++)

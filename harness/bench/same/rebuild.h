@@ -4,12 +4,25 @@
 
 #include "../same.h"
 #include "decide.h"
+#include "evenodd.h"
 #include "lanes.h"
 #include "shape.h"
 #include "stripe.h"
 
+[[clang::noinline]] static uint64_t first_failing_with(struct zijraduf_shape shape, const uint8_t *stripe)
+{
+    uint8_t shared[CELL_MOST];
+    put_shared(shape, stripe, 0, shape.cell, shared);
+    uint64_t n = equation_count(shape), q = 0;
+    while (q < n && !fails_with(shape, stripe, shared, q))
+        q++;
+    return q;
+}
+
 static uint64_t first_failing(struct zijraduf_shape shape, const uint8_t *stripe)
 {
+    if (shares(shape))
+        return first_failing_with(shape, stripe);
     uint64_t n = equation_count(shape), q = 0;
     while (q < n && !equation_fails(shape, stripe, q))
         q++;

@@ -19,7 +19,9 @@ static uint64_t column_count(struct zijraduf_shape shape)
 {
     if (shape.data_given != 0)
         return shape.data + 2;
-    return shape.code == 3 ? shape.p : shape.p + 1;
+    if (shape.code == 3)
+        return shape.p;
+    return shape.code == 4 ? shape.p + 2 : shape.p + 1;
 }
 
 static uint64_t equation_count(struct zijraduf_shape shape)
@@ -44,7 +46,7 @@ static int is_listed(uint64_t p)
 
 static uint64_t code_refusal(struct zijraduf_shape shape)
 {
-    if (shape.code == 0 || 3 < shape.code)
+    if (shape.code == 0 || 4 < shape.code)
         return 1;
     if (!is_listed(shape.p))
         return 2;
@@ -75,6 +77,8 @@ static int is_parity(struct zijraduf_shape shape, uint64_t row, uint64_t column)
         return data_count(shape) <= column;
     if (shape.code == 3)
         return shape.p - 2 <= row;
+    if (shape.code == 4)
+        return shape.p <= column;
     return column == shape.p || column == row + 1;
 }
 

@@ -91,6 +91,32 @@ static int is_sum(const uint8_t *s, const uint64_t *places, uint64_t count, size
     return 1;
 }
 
+/* The same where the run `more` is a part of the sum. */
+static int is_sum_block_with(const uint8_t *s, const uint64_t *places, uint64_t count, size_t to,
+                             const uint8_t *more, size_t at, size_t n)
+{
+    uint8_t sum[BLOCK] = {0};
+    add_bytes(sum, s, to + at, n);
+    add_bytes(sum, more, at, n);
+    add_runs(sum, s, places, count, at, n);
+    return all_zero(sum, n);
+}
+
+static int is_sum_with(const uint8_t *s, const uint64_t *places, uint64_t count, size_t to,
+                       const uint8_t *more, size_t n)
+{
+    if (n < BLOCK)
+        return is_sum_block_with(s, places, count, to, more, 0, n);
+    size_t done = 0;
+    while (done < n) {
+        size_t at = block_at(done, n);
+        if (!is_sum_block_with(s, places, count, to, more, at, BLOCK))
+            return 0;
+        done = at + BLOCK;
+    }
+    return 1;
+}
+
 static int is_zero_block(const uint8_t *s, const uint64_t *places, uint64_t count, size_t at, size_t n)
 {
     uint8_t sum[BLOCK] = {0};

@@ -7,7 +7,7 @@ use crate::cases::lists::Lost;
 use crate::cases::loans::{Loan, Place, BUFFERS, BYTES, SPARE, STRIPE};
 use crate::random::Random;
 use crate::second::call::{Answer, Call, Lent, Operation, Shape};
-use crate::second::shapes::{Second, PRIMES};
+use crate::second::shapes::{Second, CODES, PRIMES};
 use crate::second::shelf::Shelf;
 
 /// All that is said of one call: what it is, how the second program answers it, how it
@@ -172,7 +172,7 @@ impl<'a> Cases<'a> {
         if self.second.length(shape).is_some() {
             return shape;
         }
-        let code = if (1..=3).contains(&shape.code) { shape.code } else { 1 };
+        let code = if CODES.contains(&shape.code) { shape.code } else { 1 };
         let p = if PRIMES.contains(&shape.p) { shape.p } else { 5 };
         Shape::new(code, p, 1)
     }
@@ -189,14 +189,14 @@ impl<'a> Cases<'a> {
     /// Of each code without m, and as often of RDP with m. An m that isn't given may be any.
     pub fn random_shape(&mut self) -> Shape {
         let random = &mut self.random;
-        let (code, p) = (random.below(4) as u64, random.one_of(&PRIMES));
+        let (code, p) = (CODES.get(random.below(CODES.len() + 1)), random.one_of(&PRIMES));
         let most = if p <= 7 || random.below(100) == 0 { 4096 } else { 300 };
         let cell = match random.below(3) {
             0 => random.one_of(&[1, 2, 3, 7, 31, 64, 127, 128, 129, 255]),
             1 => 1 + random.below(20) as u64,
             _ => 1 + random.below(most) as u64,
         };
-        if code > 0 {
+        if let Some(&code) = code {
             return Shape { data: random.one_of(&[0, 0, 1, p, u64::MAX]), ..Shape::new(code, p, cell) };
         }
         let data_given = random.one_of(&[1, 1, 2, 1 << 32, u64::MAX]);

@@ -3,9 +3,10 @@
 use crate::cases::case::Cases;
 use crate::cases::fills::Fill;
 use crate::cases::loans::{Place, STRIPE};
-use crate::cases::shapes::{any_p, codes, CODES, SOME_CELLS, SOME_P};
+use crate::cases::shapes::{any_p, cell_count, codes, some_codes, SOME_CELLS, SOME_P};
 use crate::second::call::{Call, Operation, Shape};
 use crate::second::encode::{BROKEN, ENCODE};
+use crate::second::shapes::CODES;
 
 const SMALL_CELLS: [u64; 10] = [1, 2, 3, 7, 31, 64, 127, 128, 129, 255];
 const LARGE_CELLS: [u64; 3] = [512, 1000, 4096];
@@ -42,7 +43,7 @@ impl Cases<'_> {
     /// Good and bad parameters in all combinations: of two bad ones, the lower
     /// refusal number must come.
     fn bad_parameters(&mut self) {
-        for code in CODES {
+        for code in some_codes() {
             for p in SOME_P {
                 for cell in SOME_CELLS {
                     self.lengths(Shape::new(code, p, cell));
@@ -55,7 +56,7 @@ impl Cases<'_> {
         let mended = self.mended(shape);
         let right = self.second.length(mended).expect("a good shape");
         let cells = right / mended.cell;
-        let another_code = [mended.p * mended.p - 1, mended.p * mended.p].map(|n| n * mended.cell);
+        let another_code = CODES.map(|code| cell_count(code, mended.p) * mended.cell);
         let another_cell = [cells, right - cells, right + cells];
         let near = [1, right - 1, right, right + 1];
         let beyond = [right + (1 << 32), right + (1 << 63), u64::MAX];

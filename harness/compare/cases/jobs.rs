@@ -5,7 +5,7 @@ use crate::cases::fields::{Change, Room, Sent};
 use crate::cases::fills::{Fill, FILLS};
 use crate::cases::lists::{Base, Form, Found, Lost, Odd, FORMS};
 use crate::cases::loans::{Place, BYTES, SPARE};
-use crate::cases::shapes::codes;
+use crate::cases::shapes::{codes, NO_CODE};
 use crate::second::call::{Answer, Call, Lent, Shape};
 use crate::second::job::{JOB, USUAL_CELL};
 use crate::second::shelf::Shelf;
@@ -194,15 +194,15 @@ impl Cases<'_> {
 
     /// Good and bad numbers in all combinations: the lowest refusal number must come.
     fn bad_numbers(&mut self) {
-        for code in [0, 1, 3, 4, 255] {
+        for code in [0, 1, 3, 4, NO_CODE, 255] {
             for p in [0, 3, 4, 33, 255] {
                 for cell in [0, 1, 4096, 4097, 65_535] {
-                    let right = self.second.length(self.mended(Shape::new(code, p, cell))).expect("good");
-                    for (length, odd) in [
-                        (right.min(MOST), Odd::Nothing),
-                        (right.min(MOST) - 1, Odd::Nothing),
-                        (right.min(MOST), Odd::Number(9)),
-                    ] {
+                    let mended = self.mended(Shape::new(code, p, cell));
+                    let cells = self.shelf(mended).cells() as u64;
+                    let right = (cells * mended.cell).min(MOST);
+                    for (length, odd) in
+                        [(right, Odd::Nothing), (right - 1, Odd::Nothing), (right, Odd::Number(cells))]
+                    {
                         let lost = Lost { odd, ..self.job_lost(Base::Cell(1), 0, 0) };
                         self.push_job(Shape::new(code, p, cell), length, Fill::Random, lost, Sent::PLAIN);
                     }

@@ -2,6 +2,7 @@
 
 use crate::random::Random;
 use crate::second::call::Call;
+use crate::second::layout::Equation;
 use crate::second::shelf::Shelf;
 
 /// The lost cells: those of a base, less some of them, and some others more.
@@ -23,6 +24,7 @@ pub enum Base {
     Empty,
     Cell(usize),
     Columns(usize, usize),
+    Equation(usize),
     Told,
     Determined,
     Unread(usize, u64),
@@ -78,6 +80,7 @@ impl Lost {
             Base::Empty => Vec::new(),
             Base::Cell(n) => vec![n],
             Base::Columns(a, b) => shelf.in_columns(a, b),
+            Base::Equation(k) => held(shelf, k),
             Base::Determined => determined(shelf, random),
             Base::Unread(k, plan) => unread(shelf, k, plan),
         };
@@ -101,7 +104,7 @@ impl Lost {
             Base::Cell(_) => self.more <= 1,
             Base::Columns(a, b) => self.more <= (a == b) as usize,
             Base::Determined => self.more == 0,
-            Base::Told | Base::Unread(..) => false,
+            Base::Equation(_) | Base::Told | Base::Unread(..) => false,
         };
         let largest = match self.base {
             Base::Columns(a, b) => a != b,
@@ -161,6 +164,13 @@ impl Lost {
             }
         }
     }
+}
+
+/// The cells that an equation holds.
+fn held(shelf: &Shelf, k: usize) -> Vec<usize> {
+    let Equation { parity, sources } = &shelf.whole.equations[k];
+    let holds = |n: &usize| sources.iter().chain([parity]).any(|held| *held == shelf.position(*n));
+    (0..shelf.cells()).filter(holds).collect()
 }
 
 fn unread(shelf: &Shelf, k: usize, plan: u64) -> Vec<usize> {

@@ -31,6 +31,7 @@ impl Cases<'_> {
     pub fn rebuilds(&mut self) {
         self.every_lost_cell();
         self.every_two_columns();
+        self.every_equation();
         self.every_size();
         self.on_the_edge();
         self.rebuild_shapes();
@@ -115,6 +116,22 @@ impl Cases<'_> {
         }
     }
 
+    /// All cells of each equation of each code and prime: a cell or two less, and with another
+    /// in the place of one. Many of these are just determined, or just aren't.
+    fn every_equation(&mut self) {
+        for (code, p) in codes() {
+            for k in 0..self.full(code, p).equations() {
+                let shape = Shape::new(code, p, self.some_cell(p));
+                let fill = self.random.one_of(&FILLS);
+                for (less, more) in [(0, 0), (1, 0), (2, 0), (1, 1)] {
+                    self.lost_cells(shape, fill, Base::Equation(k), less, more);
+                }
+                self.lost_cells(shape, Fill::Encoded, Base::Equation(k), 1, 0);
+                self.junk();
+            }
+        }
+    }
+
     /// Random sets of every size, from none to all.
     fn every_size(&mut self) {
         for (code, p) in codes() {
@@ -195,10 +212,10 @@ impl Cases<'_> {
     /// Lists many times as long as the stripe has cells.
     fn long_lists(&mut self) {
         for (code, p) in codes().filter(|(_, p)| [3, 31].contains(p)) {
-            let shape = Shape::new(code, p, 3);
+            let (shape, cells) = (Shape::new(code, p, 3), self.full(code, p).cells() as u64);
             for (base, more) in [(Base::Columns(0, 1), 0), (Base::Columns(0, 2), 1), (Base::Cell(5), 0)] {
                 let lost = Lost { form: Form::Huge, ..self.some_lost(base, 0, more) };
-                for odd in [Odd::Nothing, Odd::Number(p * p)] {
+                for odd in [Odd::Nothing, Odd::Number(cells)] {
                     let lost = Lost { odd, ..lost };
                     self.push_lost(self.good_call(REBUILD_CELLS, shape), Fill::Encoded, lost);
                 }

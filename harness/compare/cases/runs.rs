@@ -4,8 +4,8 @@ use crate::cases::case::{Back, Case, Cases, Filled, Pieces};
 use crate::cases::fills::{Fill, FILLS};
 use crate::cases::lists::{Base, Found, Lost};
 use crate::cases::loans::{SPARE, STRIPE};
-use crate::cases::shapes::{any_p, codes, edge_shapes, outside};
-use crate::cases::shapes::{CODES, LARGE_CELLS, SMALL_CELLS, SOME_CELLS, SOME_P};
+use crate::cases::shapes::{any_p, codes, edge_shapes, outside, sides, some_codes};
+use crate::cases::shapes::{LARGE_CELLS, SMALL_CELLS, SOME_CELLS, SOME_P};
 use crate::random::Random;
 use crate::second::call::{Answer, Call, Lent, Operation, Shape};
 use crate::second::shapes::PRIMES;
@@ -101,7 +101,7 @@ impl Cases<'_> {
 
     /// Good and bad parameters in all combinations.
     fn bad_plans(&mut self) {
-        for code in CODES {
+        for code in some_codes() {
             for p in SOME_P {
                 for cell in SOME_CELLS {
                     for k in [0, 3, u64::MAX] {
@@ -353,7 +353,7 @@ impl Cases<'_> {
             }
         }
         for (shape, length) in any_p() {
-            let spare_length = if shape.code == 3 { shape.p } else { shape.p.wrapping_sub(1) };
+            let [spare_length, _] = sides(shape.code, shape.p);
             let call = Call { spare_length, budget: 1, ..Call::new(RUN, shape, length) };
             self.push_run(call, Fill::Random, Pieces::One);
             self.push_show(Call { operation: SHOW, ..call });

@@ -5,10 +5,11 @@ use crate::cases::case::{Cases, New, Pieces};
 use crate::cases::fills::{Fill, EXTENTS, FILLS};
 use crate::cases::lists::{Base, Lost, Odd};
 use crate::cases::loans::{BYTES, SPARE, STRIPE};
+use crate::cases::shapes::{cell_count, edge_codes, NO_CODE};
 use crate::second::call::{Call, Operation, Shape};
 use crate::second::encode::{BROKEN, ENCODE};
 use crate::second::rebuild::{BAD_COLUMN, REBUILD_CELLS, REBUILD_COLUMNS};
-use crate::second::shapes::PRIMES;
+use crate::second::shapes::{CODES, PRIMES};
 use crate::second::spare::{PLAN, RUN, SHOW};
 use crate::second::write::WRITE;
 
@@ -263,7 +264,7 @@ impl Cases<'_> {
     /// With stripes of all columns, and of as many as are told where those are few.
     fn each_length(&mut self, shape: Shape, bad: bool) {
         let column = shape.p.wrapping_sub(1).wrapping_mul(shape.cell);
-        let full = column.wrapping_mul(shape.p.wrapping_add(1));
+        let full = cell_count(shape.code, shape.p).wrapping_mul(shape.cell);
         let told = column.wrapping_mul(shape.data.wrapping_add(2));
         self.each_call(shape, full, bad);
         if told != full && shape.data <= 40 {
@@ -274,8 +275,8 @@ impl Cases<'_> {
     /// Every m as it may be told, for all codes; of all primes for RDP.
     fn every_telling(&mut self) {
         let rdp = PRIMES.map(|p| (1, p));
-        let all = rdp.into_iter().chain([(2, 5), (3, 5), (2, 31), (3, 3), (0, 5), (4, 5), (1, 4)]);
-        for (code, p) in all {
+        let others = CODES[1..].iter().flat_map(|&code| [(code, 5), (code, 31)]);
+        for (code, p) in rdp.into_iter().chain(others).chain([(0, 5), (NO_CODE, 5), (1, 4)]) {
             for (data_given, data) in tellings(p) {
                 let bad = self.random.below(2) == 0;
                 self.each_length(Shape { data_given, data, ..Shape::new(code, p, 1) }, bad);
@@ -286,7 +287,7 @@ impl Cases<'_> {
     /// Good and bad code, p and cell size beside a good and a bad m: the first refusal of
     /// 1, 2, 14, 3, 4 and 5 must come.
     fn bad_beside(&mut self) {
-        for code in [0, 1, 2, 3, 4, u64::MAX] {
+        for code in edge_codes() {
             for p in [0, 4, 5, 32, u64::MAX] {
                 for cell in [0, 3, 4097, u64::MAX] {
                     for (data_given, data) in some_tellings(p) {

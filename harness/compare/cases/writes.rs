@@ -4,14 +4,26 @@ use crate::cases::case::{Case, Cases, New};
 use crate::cases::fills::Fill;
 use crate::cases::loans::{BYTES, STRIPE};
 use crate::cases::shapes::{any_p, codes, edge_shapes};
-use crate::second::call::{Call, Shape};
+use crate::second::call::{Answer, Call, Shape};
 use crate::second::layout::Position;
+use crate::second::shelf::Shelf;
 use crate::second::write::WRITE;
 
 const SMALL_CELLS: [u64; 12] = [1, 2, 3, 7, 31, 64, 127, 128, 129, 255, 256, 257];
 const LARGE_CELLS: [u64; 3] = [512, 1000, 4096];
 const FILLS: [Fill; 3] = [Fill::Encoded, Fill::Random, Fill::CellDamaged];
 const NEWS: [New; 3] = [New::Random, New::Same, New::OneByte];
+
+/// How many parity cells depend on a position, as the documents count them.
+pub fn known(case: &Case, _: &Shelf) -> Option<Answer> {
+    let Call { shape: Shape { code, p, .. }, row, column, .. } = case.call;
+    let on_last = row + column == p - 1;
+    Some(Answer::counted(match code {
+        1 if row > 0 && !on_last => 3,
+        4 if on_last => p,
+        _ => 2,
+    }))
+}
 
 impl Cases<'_> {
     pub fn writes(&mut self) {
@@ -45,11 +57,11 @@ impl Cases<'_> {
         }
     }
 
-    /// Every row and column from 0 to p + 1, so that all that lie in the stripe are
+    /// Every row and column from 0 to p + 2, so that all that lie in the stripe are
     /// among them, swapped too. Above p = 13 one call for each, else three.
     fn every_position(&mut self) {
         for (code, p) in codes() {
-            let side = p as usize + 2;
+            let side = p as usize + 3;
             for position in (0..side).flat_map(|row| (0..side).map(move |column| (row, column))) {
                 let cell = self.random.one_of(&[1, 2, 3, 7]);
                 let call = self.write(Shape::new(code, p, cell), position);
@@ -129,7 +141,8 @@ impl Cases<'_> {
 
     /// New bytes that are not one cell long, for data, for parity and for outside.
     fn wrong_new_bytes(&mut self) {
-        for (code, p) in (1..=3).flat_map(|code| [3, 7].map(|p| (code, p))) {
+        for (code, p) in codes().filter(|(_, p)| [3, 7].contains(p)) {
+            let columns = self.full(code, p).columns;
             for cell in SMALL_CELLS.into_iter().chain(LARGE_CELLS) {
                 let shape = Shape::new(code, p, cell);
                 let (data, parity) = (self.position(shape, false), self.position(shape, true));
@@ -137,7 +150,7 @@ impl Cases<'_> {
                 let near = [0, cell - 1, cell + 1, another, 2 * cell, 4096];
                 let beyond = [cell + (1 << 8), cell + (1 << 32), cell + (1 << 63), u64::MAX];
                 for bytes_length in near.into_iter().chain(beyond) {
-                    for position in [data, parity, (data.0, p as usize + 1)] {
+                    for position in [data, parity, (data.0, columns)] {
                         let call = Call { bytes_length, ..self.write(shape, position) };
                         self.push_write(call, Fill::Encoded, New::Random);
                     }

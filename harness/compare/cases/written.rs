@@ -1,14 +1,16 @@
-//! The scope document's stripes to try, with the answers that it gives.
+//! Stripes to try, with the answers that are known: the scope document's, and others made by
+//! hand for what the requests after it ask.
 
 use crate::cases::case::Cases;
 use crate::cases::fields::Sent;
 use crate::cases::fills::Fill;
 use crate::cases::loans::LOST;
+use crate::cases::shapes::NO_CODE;
 use crate::second::call::{Answer, Call, Operation, Shape, CLEAN, COLUMN, UNEXPLAINED};
 use crate::second::encode::{BROKEN, ENCODE};
 use crate::second::job::JOB;
 use crate::second::rebuild::{BAD_COLUMN, REBUILD_CELLS, REBUILD_COLUMNS};
-use crate::second::spare::{PLAN, RUN};
+use crate::second::spare::{PLAN, RUN, SHOW};
 use crate::second::write::WRITE;
 
 impl Cases<'_> {
@@ -79,6 +81,28 @@ const SHORT_LOST: [u8; 16] =
 const SHORT_ALTERED: [u8; 16] =
     [0x01, 0x02, 0x04, 0x08, 0x10, 0x20, 0x40, 0x80, 0x12, 0x22, 0x44, 0x98, 0x23, 0x56, 0xAC, 0x48];
 
+/// An encoded stripe of EVENODD for p = 3, with junk in its parity and with two columns lost,
+/// and a job that asks for these.
+const EVENODD: [u8; 10] = [0x01, 0x02, 0x04, 0x08, 0x10, 0x20, 0x15, 0x2A, 0x39, 0x1E];
+const EVENODD_JUNK: [u8; 10] = [0x01, 0x02, 0x04, 0x08, 0x10, 0x20, 0xEE, 0xEE, 0xEE, 0xEE];
+const EVENODD_LOST: [u8; 10] = [0x01, 0x02, 0xEE, 0xEE, 0xEE, 0xEE, 0x15, 0x2A, 0x39, 0x1E];
+const EVENODD_JOB: [u8; 37] = [
+    0x01, 0x00, 0x01, 0x04, 0x02, 0x00, 0x01, 0x03, 0x03, 0x00, 0x02, 0x00, 0x01, 0x04, 0x00, 0x08, 0x00,
+    0x02, 0x00, 0x03, 0x00, 0x04, 0x00, 0x05, 0x05, 0x00, 0x0A, 0x01, 0x02, 0xEE, 0xEE, 0xEE, 0xEE, 0x15,
+    0x2A, 0x39, 0x1E,
+];
+const EVENODD_ANSWER: [u8; 17] =
+    [0x06, 0x00, 0x01, 0x00, 0x05, 0x00, 0x0A, 0x01, 0x02, 0x04, 0x08, 0x10, 0x20, 0x15, 0x2A, 0x39, 0x1E];
+
+/// What small writes make of it, two on the diagonal of S and two off it; and the stripe with a
+/// cell altered on that diagonal, and with one on it and one off it.
+const EVENODD_ON: [u8; 10] = [0x01, 0x02, 0x04, 0x00, 0x10, 0x20, 0x15, 0x22, 0x31, 0x16];
+const EVENODD_ON_TOO: [u8; 10] = [0x01, 0x02, 0x04, 0x08, 0x00, 0x20, 0x05, 0x2A, 0x29, 0x0E];
+const EVENODD_OFF: [u8; 10] = [0x00, 0x02, 0x04, 0x08, 0x10, 0x20, 0x14, 0x2A, 0x38, 0x1E];
+const EVENODD_OFF_TOO: [u8; 10] = [0x01, 0x02, 0x04, 0x08, 0x10, 0x00, 0x15, 0x0A, 0x19, 0x1E];
+const EVENODD_ALTERED: [u8; 10] = [0x01, 0x02, 0x04, 0x00, 0x10, 0x20, 0x15, 0x2A, 0x39, 0x1E];
+const EVENODD_BOTH: [u8; 10] = [0x00, 0x02, 0x04, 0x0A, 0x10, 0x20, 0x15, 0x2A, 0x39, 0x1E];
+
 /// A spare for p = 5 with junk in it, and columns 0, 1 and 5 of that stripe.
 const SPARE: [u8; 4] = [0xEE; 4];
 const COLUMN_0: [u8; 4] = [0x01, 0x02, 0x04, 0x08];
@@ -96,9 +120,9 @@ pub static WRITTEN: &[Written] = &[
     counted(2, &P2, 0),
     counted(3, &P3, 0),
     counted(1, &P10, 3),
-    changed((0, 0), &[0x05], &P4, 2),
-    changed((1, 0), &[0x00], &P5, 3),
-    changed((1, 0), &[0x04], &P1, 3),
+    changed(1, &P1, (0, 0), &[0x05], &P4, 2),
+    changed(1, &P1, (1, 0), &[0x00], &P5, 3),
+    changed(1, &P1, (1, 0), &[0x04], &P1, 3),
     lost_of(1, 5, &RDP_5, &P6_LOST, 11, &RDP_5),
     lost_of(1, 5, &RDP_5, &P7_LOST, 11, &RDP_5),
     lost_of(1, 5, &P7_JUNK, &P7_DETERMINED, 0, &RDP_5),
@@ -116,8 +140,8 @@ pub static WRITTEN: &[Written] = &[
     lost_of(3, 3, &P3, &[0, 1, 2, 3, 4, 5, 6, 7, 8], 11, &P3),
     // The job's stripe and lost cells; column 0 is the same; the empty list.
     lost_of(1, 3, &JOB_STRIPE, &[0, 1], 0, &P1),
-    columns_of(&JOB_STRIPE, [0, 0], 0, &P1),
-    columns_of(&JOB_STRIPE, [3, 0], 0, &P1),
+    columns_of(1, &JOB_STRIPE, [0, 0], 0, &P1),
+    columns_of(1, &JOB_STRIPE, [3, 0], 0, &P1),
     lost_of(1, 3, &P1, &[], 0, &P1),
     lost_of(1, 3, &P10, &[], 12, &P10),
     // P8, and what its plans and refused plans do; column 0 has no row that is forced.
@@ -130,7 +154,7 @@ pub static WRITTEN: &[Written] = &[
     refused_plan(1, 8),
     refused_plan(1, 16),
     refused_plan(5, 7),
-    JOB_EXAMPLE,
+    job(1, &JOB_BYTES, &JOB_ANSWER),
     // A shelf with fewer disks, for p = 5 with two data columns.
     short(Written { after: &SHORT, ..still(ENCODE, 1, 5, &SHORT_JUNK, Answer::refused(0)) }),
     short(still(BROKEN, 1, 5, &SHORT, Answer::counted(0))),
@@ -158,6 +182,46 @@ pub static WRITTEN: &[Written] = &[
     told(1, 0, refused(ENCODE, 9, 1, 2)),
     told(1, 0, refused(ENCODE, 3, 0, 14)),
     told(1, 2, refused(ENCODE, 3, 0, 4)),
+    // EVENODD, and a code that there isn't.
+    encoded(4, &EVENODD_JUNK, &EVENODD),
+    encoded(4, &EVENODD, &EVENODD),
+    counted(4, &EVENODD, 0),
+    counted(4, &EVENODD_ALTERED, 3),
+    counted(4, &EVENODD_BOTH, 4),
+    changed(4, &EVENODD, (1, 1), &[0x00], &EVENODD_ON, 3),
+    changed(4, &EVENODD, (0, 2), &[0x00], &EVENODD_ON_TOO, 3),
+    changed(4, &EVENODD, (0, 0), &[0x00], &EVENODD_OFF, 2),
+    changed(4, &EVENODD, (1, 2), &[0x00], &EVENODD_OFF_TOO, 2),
+    changed(4, &EVENODD, (1, 2), &[0x20], &EVENODD, 2),
+    unwritten((0, 3), 7),
+    unwritten((1, 4), 7),
+    unwritten((2, 0), 6),
+    unwritten((0, 5), 6),
+    found(4, &EVENODD, CLEAN, 0),
+    found(4, &EVENODD_ALTERED, COLUMN, 1),
+    found(4, &EVENODD_BOTH, UNEXPLAINED, 0),
+    columns_of(4, &EVENODD_LOST, [2, 1], 0, &EVENODD),
+    columns_of(4, &EVENODD_JUNK, [3, 4], 0, &EVENODD),
+    columns_of(4, &EVENODD_ALTERED, [1, 1], 0, &EVENODD),
+    columns_of(4, &EVENODD_ALTERED, [4, 4], 12, &EVENODD_ALTERED),
+    columns_of(4, &EVENODD, [0, 5], 6, &EVENODD),
+    lost_of(4, 3, &EVENODD_LOST, &[2, 3, 4, 5], 0, &EVENODD),
+    lost_of(4, 3, &EVENODD, &[2, 3, 4, 5, 9], 11, &EVENODD),
+    lost_of(4, 3, &EVENODD, &[0, 1, 2, 3, 4, 5, 6, 7, 8, 9], 11, &EVENODD),
+    lost_of(4, 3, &EVENODD_ALTERED, &[9], 12, &EVENODD_ALTERED),
+    lost_of(4, 3, &EVENODD, &[10], 6, &EVENODD),
+    job(4, &EVENODD_JOB, &EVENODD_ANSWER),
+    still(PLAN, 4, 3, &[], Answer::refused(3)),
+    still(RUN, 4, 3, &EVENODD, Answer::refused(3)),
+    still(SHOW, 4, 3, &EVENODD, Answer::refused(3)),
+    told(1, 2, still(PLAN, 4, 3, &[], Answer::refused(14))),
+    told(1, 2, still(ENCODE, 4, 3, &EVENODD, Answer::refused(14))),
+    told(1, 2, still(RUN, 4, 3, &EVENODD, Answer::refused(14))),
+    told(1, 2, still(SHOW, 4, 3, &EVENODD, Answer::refused(14))),
+    still(ENCODE, 4, 9, &EVENODD, Answer::refused(2)),
+    still(ENCODE, 4, 3, &P3, Answer::refused(5)),
+    still(ENCODE, NO_CODE, 3, &EVENODD, Answer::refused(1)),
+    still(PLAN, NO_CODE, 3, &[], Answer::refused(1)),
     refused(ENCODE, 9, 1, 2),
     refused(ENCODE, 2, 1, 2),
     refused(ENCODE, 33, 1, 2),
@@ -221,16 +285,23 @@ const fn refused(operation: Operation, p: u64, cell: u64, refusal: u64) -> Writt
     Written { call: Call { shape: Shape::new(1, p, cell), ..written.call }, ..written }
 }
 
-/// A small write into P1.
+/// A small write for p = 3.
 const fn changed(
+    code: u64,
+    before: &'static [u8],
     (row, column): (u64, u64),
     bytes: &'static [u8],
     after: &'static [u8],
     count: u64,
 ) -> Written {
-    let written = still(WRITE, 1, 3, &P1, Answer::counted(count));
+    let written = still(WRITE, code, 3, before, Answer::counted(count));
     let call = Call { row, column, bytes_length: bytes.len() as u64, ..written.call };
     Written { call, bytes, after, ..written }
+}
+
+/// A small write into the stripe of EVENODD that is refused.
+const fn unwritten(position: (u64, u64), refusal: u64) -> Written {
+    Written { answer: Answer::refused(refusal), ..changed(4, &EVENODD, position, &[0x00], &EVENODD, 0) }
 }
 
 const fn lost_of(
@@ -244,9 +315,15 @@ const fn lost_of(
     Written { lost, after, ..still(REBUILD_CELLS, code, p, before, Answer::refused(refusal)) }
 }
 
-/// A rebuild of columns of RDP for p = 3.
-const fn columns_of(before: &'static [u8], columns: [u64; 2], refusal: u64, after: &'static [u8]) -> Written {
-    let written = still(REBUILD_COLUMNS, 1, 3, before, Answer::refused(refusal));
+/// A rebuild of columns for p = 3.
+const fn columns_of(
+    code: u64,
+    before: &'static [u8],
+    columns: [u64; 2],
+    refusal: u64,
+    after: &'static [u8],
+) -> Written {
+    let written = still(REBUILD_COLUMNS, code, 3, before, Answer::refused(refusal));
     Written { call: Call { columns, ..written.call }, after, ..written }
 }
 
@@ -285,10 +362,10 @@ const fn refused_plan(k: u64, plan: u64) -> Written {
     ran(k, plan, 4, Answer::refused(9), &SPARE)
 }
 
-/// Its job, and the room for its answer.
-const JOB_EXAMPLE: Written = {
-    let written = still(JOB, 1, 3, &[], Answer::answered(0, JOB_ANSWER.len() as u64));
-    let [bytes_length, spare_length] = [JOB_BYTES.len() as u64, JOB_ANSWER.len() as u64];
+/// A job for p = 3 that is carried out, with room as long as its answer.
+const fn job<const N: usize>(code: u64, bytes: &'static [u8], answer: &'static [u8; N]) -> Written {
+    let written = still(JOB, code, 3, &[], Answer::answered(0, N as u64));
+    let [bytes_length, spare_length] = [bytes.len() as u64, N as u64];
     let call = Call { bytes_length, spare_length, ..written.call };
-    Written { call, bytes: &JOB_BYTES, spare: &[0xEE; JOB_ANSWER.len()], spare_after: &JOB_ANSWER, ..written }
-};
+    Written { call, bytes, spare: &[0xEE; N], spare_after: answer, ..written }
+}

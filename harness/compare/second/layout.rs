@@ -1,4 +1,4 @@
-//! The stripes of the three codes: their rows, columns and equations.
+//! The stripes of the codes: their rows, columns and equations.
 
 /// (row, column)
 pub type Position = (usize, usize);
@@ -17,13 +17,14 @@ pub struct Layout {
 }
 
 impl Layout {
-    /// For a code of 1 to 3 and a p in the list only.
+    /// For a code and a p in the lists only.
     pub fn new(code: u64, p: u64) -> Layout {
         let p = p as usize;
         match code {
             1 => Layout { rows: p - 1, columns: p + 1, equations: rdp(p) },
             2 => Layout { rows: p - 1, columns: p + 1, equations: h_code(p) },
             3 => Layout { rows: p, columns: p, equations: x_code(p) },
+            4 => Layout { rows: p - 1, columns: p + 2, equations: evenodd(p) },
             _ => unreachable!("code {code}"),
         }
     }
@@ -75,13 +76,15 @@ impl Layout {
     }
 }
 
+/// The cells of columns 0 to p-1 and rows 0 to p-2 with i+j = d mod p.
+fn on_diagonal(p: usize, d: usize) -> impl Iterator<Item = Position> {
+    let all = (0..=p - 1).flat_map(move |j| (0..=p - 2).map(move |i| (i, j)));
+    all.filter(move |(i, j)| (i + j) % p == d)
+}
+
 fn rdp(p: usize) -> Vec<Equation> {
     let row = |i| Equation { parity: (i, p - 1), sources: (0..=p - 2).map(|j| (i, j)).collect() };
-    let on_diagonal = |d: usize| {
-        let all = (0..=p - 1).flat_map(|j| (0..=p - 2).map(move |i| (i, j)));
-        all.filter(|(i, j)| (i + j) % p == d).collect()
-    };
-    let diagonal = |d| Equation { parity: (d, p), sources: on_diagonal(d) };
+    let diagonal = |d| Equation { parity: (d, p), sources: on_diagonal(p, d).collect() };
     (0..=p - 2).map(row).chain((0..=p - 2).map(diagonal)).collect()
 }
 
@@ -101,4 +104,11 @@ fn x_code(p: usize) -> Vec<Equation> {
     let second =
         |c| Equation { parity: (p - 1, c), sources: (0..=p - 3).map(|k| (k, (p + c - k - 2) % p)).collect() };
     (0..p).map(first).chain((0..p).map(second)).collect()
+}
+
+fn evenodd(p: usize) -> Vec<Equation> {
+    let row = |i| Equation { parity: (i, p), sources: (0..=p - 1).map(|j| (i, j)).collect() };
+    let s = || (1..=p - 1).map(|j| (p - 1 - j, j));
+    let diagonal = |d| Equation { parity: (d, p + 1), sources: s().chain(on_diagonal(p, d)).collect() };
+    (0..=p - 2).map(row).chain((0..=p - 2).map(diagonal)).collect()
 }

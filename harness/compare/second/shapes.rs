@@ -3,6 +3,8 @@
 use crate::second::call::{Answer, Call, Shape};
 use crate::second::shelf::Shelf;
 
+/// RDP, H-Code, X-Code and EVENODD.
+pub const CODES: [u64; 4] = [1, 2, 3, 4];
 pub const PRIMES: [u64; 10] = [3, 5, 7, 11, 13, 17, 19, 23, 29, 31];
 
 /// The shelves of every code and prime, and of RDP with every number of data columns, made
@@ -11,7 +13,7 @@ pub struct Second(Vec<(u64, u64, Option<u64>, Shelf)>);
 
 impl Second {
     pub fn new() -> Second {
-        let full = (1..=3).flat_map(|code| PRIMES.map(|p| (code, p, None)));
+        let full = CODES.into_iter().flat_map(|code| PRIMES.map(|p| (code, p, None)));
         let short = PRIMES.into_iter().flat_map(|p| (1..=p - 1).map(move |m| (1, p, Some(m))));
         Second(full.chain(short).map(|(code, p, m)| (code, p, m, Shelf::new(code, p, m))).collect())
     }
@@ -33,7 +35,7 @@ impl Second {
 
     /// The shelf of a call's code, p and m, or the first of the refusals 1, 2 and 14.
     fn known(&self, shape: Shape) -> Result<&Shelf, u64> {
-        refuse_if(!(1..=3).contains(&shape.code), 1)?;
+        refuse_if(!CODES.contains(&shape.code), 1)?;
         refuse_if(!PRIMES.contains(&shape.p), 2)?;
         refuse_if(shape.m().is_some_and(|m| shape.code != 1 || m < 1 || m > shape.p - 1), 14)?;
         Ok(self.shelf(shape).expect("there is one of every good shape"))

@@ -15,7 +15,7 @@ pub struct Shelf {
 }
 
 impl Shelf {
-    /// For a code of 1 to 3 and a p in the list only; m for RDP only, and 1 to p - 1.
+    /// For a code and a p in the lists only; m for RDP only, and 1 to p - 1.
     pub fn new(code: u64, p: u64, m: Option<u64>) -> Shelf {
         let whole = Layout::new(code, p);
         let exists = |j: &usize| m.is_none_or(|m| *j < m as usize || *j >= p as usize - 1);
