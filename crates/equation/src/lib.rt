@@ -178,8 +178,8 @@ pub fn total_byte(shape: Shape, stripe: &[u8], q: usize, t: usize, shared: u8) -
 // XORs n bytes of the cells that equation q has by itself into the first n of `sum`.
 fn add_own(shape: Shape, stripe: &[u8], q: usize, at: usize, n: usize, sum: &mut [u8])
     requires { ⌜ Window shape (now stripe) at n × (q < equations shape) × (n ≤ length (now sum)) ⌝ }
-    ensures { λ _. ⌜ Put (now (sum .entry)) 0 n (λ i. getD (now (sum .entry)) (0 + i) 0 ⊕ ownTotal shape q (bytesAt shape (now (stripe .entry)) (at + i)))
-        (now (sum .exit)) ⌝ }
+    ensures { λ _. ⌜ Put (now (sum .entry)) 0 n
+        (λ i. getD (now (sum .entry)) (0 + i) 0 ⊕ ownTotal shape q (bytesAt shape (now (stripe .entry)) (at + i))) (now (sum .exit)) ⌝ }
 {
     let mut places = [0usize; codes::PLACES];
     let count = codes::cells_of(shape, q, &mut places);
@@ -188,7 +188,8 @@ fn add_own(shape: Shape, stripe: &[u8], q: usize, at: usize, n: usize, sum: &mut
 
 // The first of n bytes in which equation q, which what is shared is a part of and which fails in one of them, does.
 fn failing_with_shared(shape: Shape, stripe: &[u8], q: usize, at: usize, n: usize) -> usize
-    requires { ⌜ Window shape (now stripe) at n × (q < equations shape) × (failsIn shape (now stripe) q at n ≡ true) × (takesShared shape q ≡ true) ⌝ }
+    requires { ⌜ Window shape (now stripe) at n × (q < equations shape) × (failsIn shape (now stripe) q at n ≡ true)
+        × (takesShared shape q ≡ true) ⌝ }
     ensures { λ r. ⌜ (r < n) × (total shape q (bytesAt shape (now (stripe .entry)) (at + r)) ≢ 0) ⌝ }
 {
     let mut sum = [0u8; codes::MOST_CELL];
