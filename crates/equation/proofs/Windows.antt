@@ -7,7 +7,7 @@ use Prim.Native.Nat.{ℕ, zero, suc, _+_, _≤_, _<_}
 use native.Mathlib.Nat.{add-assoc, zero-add}
 use native.Mathlib.Omega.{arith}
 use lib.Dec.{eqb}
-use lib.ListN.{length, getD, take}
+use lib.ListN.{length, getD, take, replicate, getD-replicate, length-replicate, List·getD-eq-default}
 use borrow.Author.Tests.{eq-eqb, ne-eqb, eqb-true, not-false}
 use Rattle.xor.specs.Xor.{_⊕_, xors}
 use Rattle.xor.specs.Sets.{any}
@@ -72,6 +72,10 @@ module _ (s : Shape) (stripe : List ℕ) (at n : ℕ) (w : Window s stripe at n)
   pub listed-put : (into into′ : List ℕ) (to : ℕ) → Put into to n (λ t. sumAt stripe (take m places) (at + t)) into′ → Put into to n (λ i. sum (bytesAt s stripe (at + i))) into′
   listed-put into into′ to put =
       put-same into into′ to n (λ t. sumAt stripe (take m places) (at + t)) (λ i. sum (bytesAt s stripe (at + i))) put (λ i l. listed-sum stripe (at + i))
+
+-- a new array has zeros
+pub new-zeros : (m i : ℕ) → _≡_ {A = ℕ} (getD (replicate m 0) i 0) 0
+new-zeros m i = by-less i m (getD-replicate {A = ℕ} m i 0 0) (λ l. List·getD-eq-default (replicate m 0) 0 (omega (arith, length-replicate {A = ℕ} m 0)))
 
 -- ---- one run, at the first place
 
@@ -164,9 +168,13 @@ module _ (s : Shape) (stripe : List ℕ) (at n : ℕ) where
   pub unshared : shares s ≡ false → (shared : List ℕ) → Shares s stripe at n shared
   unshared h shared = record { long = λ k. clash k h; is = λ k. clash k h }
 
-  -- as it is put
-  pub shared-put : (old new : List ℕ) → n ≤ length old → Put old 0 n (λ i. sharedSum s (bytesAt s stripe (at + i))) new → Shares s stripe at n new
-  shared-put old new long put = record { long = λ k. omega (arith, put .long); is = λ k i l. ap (λ (j : ℕ). getD new j 0) (sym (zero-add i)) ∙ put .inner i l }
+  -- as it is added to zeros
+  pub shared-put : (old new : List ℕ) → n ≤ length old → ((i : ℕ) → i < n → getD old i 0 ≡ 0) → Put old 0 n (λ i. getD old (0 + i) 0 ⊕ sharedSum s (bytesAt s stripe (at + i))) new → Shares s stripe at n new
+  shared-put old new long zeros put = record {
+    long = λ k. omega (arith, put .long);
+    is = λ k i l. ap (λ (j : ℕ). getD new j 0) (sym (zero-add i)) ∙ put .inner i l
+        ∙ ap (λ (x : ℕ). x ⊕ sharedSum s (bytesAt s stripe (at + i))) (ap (λ (j : ℕ). getD old j 0) (zero-add i) ∙ zeros i l) ∙ zero-⊕ (sharedSum s (bytesAt s stripe (at + i)));
+  }
 
   -- it stays as long as data stays
   pub shared-stays : WellFormed s → (new shared : List ℕ) → ((c : ℕ) → c < cells s → isParity s c ≡ false → (i : ℕ) → i < n → byteAt s stripe c (at + i) ≡ byteAt s new c (at + i)) → Shares s stripe at n shared → Shares s new at n shared

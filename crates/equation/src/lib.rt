@@ -2,8 +2,8 @@
 // What several equations share (of EVENODD S) is summed before them, once a window, and lent to each as `shared`.
 ghost use mathlib.Core.Path.{_≡_};
 ghost use mathlib.Core.Logic.{_≢_};
-ghost use mathlib.Core.Bool.{true};
-ghost use Prim.Native.Nat.{_+_, _≤_, _<_};
+ghost use mathlib.Core.Bool.{true, false};
+ghost use Prim.Native.Nat.{ℕ, _+_, _≤_, _<_};
 ghost use lib.ListN.{length, getD};
 ghost use Rattle.xor.specs.Xor.{_⊕_};
 ghost use Rattle.xor.specs.Runs.{Put};
@@ -14,9 +14,9 @@ ghost use Rattle.codes.specs.Lines.{takesShared, ownCell, sumWhere, ownTotal};
 ghost use Rattle.equation.specs.Window.{bytesAt, Window, Shares, SharedByte, ParityPut, ParitySet, failsIn};
 use codes::Shape;
 
-// Puts n bytes of what several equations share into the first n of `shared`, where there is such.
+// Puts n bytes of what several equations share into the first n of `shared`, which are zeros, where there is such.
 pub fn put_shared(shape: Shape, stripe: &[u8], at: usize, n: usize, shared: &mut [u8])
-    requires { ⌜ Window shape (now stripe) at n × (n ≤ length (now shared)) ⌝ }
+    requires { ⌜ Window shape (now stripe) at n × (n ≤ length (now shared)) × ((i : ℕ) → i < n → getD (now shared) i 0 ≡ 0) ⌝ }
     ensures { λ _. ⌜ Shares shape (now (stripe .entry)) at n (now (shared .exit)) × (length (now (shared .exit)) ≡ length (now (shared .entry))) ⌝ }
 {
     if !codes::shares(shape) {
@@ -24,7 +24,7 @@ pub fn put_shared(shape: Shape, stripe: &[u8], at: usize, n: usize, shared: &mut
     }
     let mut places = [0usize; codes::PLACES];
     let count = codes::shared_cells(shape, &mut places);
-    xor::put_sum_from(shared, 0, stripe, &places[..count], at, n);
+    xor::add_shared(shared, 0, stripe, &places[..count], at, n);
 }
 
 // The same in byte t.
@@ -46,7 +46,7 @@ fn add_shared(into: &mut [u8], to: usize, shared: &[u8], n: usize)
     ensures { λ _. ⌜ Put (now (into .entry)) to n (λ i. getD (now (into .entry)) (to + i) 0 ⊕ getD (now (shared .entry)) i 0) (now (into .exit)) ⌝ }
 {
     let places = [0usize; 1];
-    xor::add_sum(into, to, shared, &places[..1], 0, n);
+    xor::add_shared(into, to, shared, &places[..1], 0, n);
 }
 
 // Sets n bytes of the parity cell of equation q to the XOR of the cells that the equation sums by itself.
@@ -75,19 +75,29 @@ pub fn set_parity(shape: Shape, stripe: &mut [u8], q: usize, at: usize, n: usize
     add_shared(stripe, to, shared, n);
 }
 
-// Whether equation q fails in one of n bytes.
-pub fn fails(shape: Shape, stripe: &[u8], q: usize, at: usize, n: usize, shared: &[u8]) -> bool
-    requires { ⌜ Window shape (now stripe) at n × (q < equations shape) × Shares shape (now stripe) at n (now shared) ⌝ }
+// Whether equation q, which nothing shared is a part of, fails in one of n bytes.
+pub fn fails(shape: Shape, stripe: &[u8], q: usize, at: usize, n: usize) -> bool
+    requires { ⌜ Window shape (now stripe) at n × (q < equations shape) × (takesShared shape q ≡ false) ⌝ }
     ensures { λ r. ⌜ r ≡ failsIn shape (now (stripe .entry)) q at n ⌝ }
 {
     let mut places = [0usize; codes::PLACES];
     let from = codes::sources_of(shape, q, &mut places);
     let to = from.to;
     let count = from.count;
-    if codes::takes_shared(shape, q) {
-        return !xor::is_sum_with(stripe, &places[..count], to, at, n, shared);
-    }
     !xor::is_sum(stripe, &places[..count], to, at, n)
+}
+
+// Whether equation q, which what is shared is a part of, fails in one of n bytes. Apart from the other, so that each is compiled by itself.
+pub fn fails_with(shape: Shape, stripe: &[u8], q: usize, at: usize, n: usize, shared: &[u8]) -> bool
+    requires { ⌜ Window shape (now stripe) at n × (q < equations shape) × (takesShared shape q ≡ true)
+        × Shares shape (now stripe) at n (now shared) ⌝ }
+    ensures { λ r. ⌜ r ≡ failsIn shape (now (stripe .entry)) q at n ⌝ }
+{
+    let mut places = [0usize; codes::PLACES];
+    let from = codes::sources_of(shape, q, &mut places);
+    let to = from.to;
+    let count = from.count;
+    !xor::is_sum_with(stripe, &places[..count], to, at, n, shared)
 }
 
 // The first equation that fails in one of n bytes, with what is shared; the number of equations where none does.
@@ -98,7 +108,12 @@ fn first_failing_with(shape: Shape, stripe: &[u8], at: usize, n: usize, shared: 
     let count = codes::equation_count(shape);
     let mut q = 0;
     while q < count {
-        if fails(shape, stripe, q, at, n, shared) {
+        let failing = if codes::takes_shared(shape, q) {
+            fails_with(shape, stripe, q, at, n, shared)
+        } else {
+            fails(shape, stripe, q, at, n)
+        };
+        if failing {
             return q;
         }
         q += 1;
@@ -183,7 +198,7 @@ fn add_own(shape: Shape, stripe: &[u8], q: usize, at: usize, n: usize, sum: &mut
 {
     let mut places = [0usize; codes::PLACES];
     let count = codes::cells_of(shape, q, &mut places);
-    xor::add_sum(sum, 0, stripe, &places[..count], at, n);
+    xor::add_shared(sum, 0, stripe, &places[..count], at, n);
 }
 
 // The first of n bytes in which equation q, which what is shared is a part of and which fails in one of them, does.

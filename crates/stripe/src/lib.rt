@@ -69,7 +69,12 @@ fn count_broken_with(shape: Shape, stripe: &[u8], shared: &[u8]) -> usize
     let mut broken = 0;
     let mut q = 0;
     while q < equations {
-        if equation::fails(shape, stripe, q, 0, cell, shared) {
+        let failing = if codes::takes_shared(shape, q) {
+            equation::fails_with(shape, stripe, q, 0, cell, shared)
+        } else {
+            equation::fails(shape, stripe, q, 0, cell)
+        };
+        if failing {
             broken += 1;
         }
         q += 1;

@@ -361,6 +361,24 @@ pub fn add_sum(d: &mut [u8], to: usize, s: &[u8], places: &[usize], at: usize, n
     }
 }
 
+// The same for what several equations share. It stands beside add_sum since a second caller of that would cost the rebuilds their speed.
+pub fn add_shared(d: &mut [u8], to: usize, s: &[u8], places: &[usize], at: usize, n: usize)
+    requires { ⌜ Inside (length (now s)) (now places) (at + n) × (to + n ≤ length (now d)) ⌝ }
+    ensures { λ _. ⌜ Put (now (d .entry)) to n (addedTo (now (d .entry)) to (now (s .entry)) (now (places .entry)) at) (now (d .exit)) ⌝ }
+{
+    if places.len() == 0 {
+        return;
+    }
+    let mut done = 0;
+    while BLOCK <= n - done {
+        add_block_sum(d, to + done, s, places, at + done, BLOCK);
+        done += BLOCK;
+    }
+    if done < n {
+        add_block_sum(d, to + done, s, places, at + done, n - done);
+    }
+}
+
 // XORs into n bytes of the run at `to`, from `at` on, how those of the run at `from` differ from the new ones.
 fn add_block_difference(s: &mut [u8], to: usize, from: usize, new: &[u8], at: usize, n: usize)
     requires { ⌜ (n ≤ 128) × (to + at + n ≤ length (now s)) × (from + at + n ≤ length (now s)) × (at + n ≤ length (now new)) ⌝ }

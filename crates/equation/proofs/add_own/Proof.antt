@@ -12,17 +12,17 @@ cells-of-requires c κs = search needs
 array-share-prefix-places : tie.Need-array-share-prefix-places
 array-share-prefix-places c = search needs
 
-slice-aggregate-add-sum : tie.Need-slice-aggregate-add-sum
-slice-aggregate-add-sum c = let a = c .before .before .before .before .before .before in sym (listed-long (a .args .shape) (a .args .stripe .now) (a .args .at) (a .args .n) (a .pre .0) _ _ _ (c .before .before .cells-of .ensures))
+slice-aggregate-add-shared : tie.Need-slice-aggregate-add-shared
+slice-aggregate-add-shared c = let a = c .before .before .before .before .before .before in sym (listed-long (a .args .shape) (a .args .stripe .now) (a .args .at) (a .args .n) (a .pre .0) _ _ _ (c .before .before .cells-of .ensures))
 
-add-sum-requires : tie.Need-add-sum-requires
-add-sum-requires c κs = let a = c .before .before .before .before .before .before in (listed-inside (a .args .shape) (a .args .stripe .now) (a .args .at) (a .args .n) (a .pre .0) _ _ _ (c .before .before .cells-of .ensures), omega (arith, a .pre .2))
+add-shared-requires : tie.Need-add-shared-requires
+add-shared-requires c κs = let a = c .before .before .before .before .before .before in (listed-inside (a .args .shape) (a .args .stripe .now) (a .args .at) (a .args .n) (a .pre .0) _ _ _ (c .before .before .cells-of .ensures), omega (arith, a .pre .2))
 
 same-length : tie.Need-same-length
 same-length c = search needs
 
 returns : tie.Need-returns
-returns c = let a = c .before .before .before .before .before .before .before .before .before in listed-added (a .args .shape) (a .args .stripe .now) (a .args .at) (a .args .n) (a .pre .0) _ _ _ (c .before .before .before .before .before .cells-of .ensures) _ _ 0 (c .before .before .add-sum .ensures)
+returns c = let a = c .before .before .before .before .before .before .before .before .before in listed-added (a .args .shape) (a .args .stripe .now) (a .args .at) (a .args .n) (a .pre .0) _ _ _ (c .before .before .before .before .before .cells-of .ensures) _ _ 0 (c .before .before .add-shared .ensures)
 
 pub add-own-spec : {M : Type 1} → statement M
 add-own-spec =
@@ -30,7 +30,7 @@ add-own-spec =
     (tie.spec
     cells-of-requires
     array-share-prefix-places
-    slice-aggregate-add-sum
-    add-sum-requires
+    slice-aggregate-add-shared
+    add-shared-requires
     same-length
     returns)

@@ -4,17 +4,17 @@ use borrow.Author.Needs.{needs}
 use Rattle.equation.proofs.add_shared.Statement.{statement}
 use Rattle.equation.proofs.add_shared.Tie as tie
 
-slice-aggregate-add-sum : tie.Need-slice-aggregate-add-sum
-slice-aggregate-add-sum c = search needs
+slice-aggregate-add-shared : tie.Need-slice-aggregate-add-shared
+slice-aggregate-add-shared c = search needs
 
-add-sum-requires : tie.Need-add-sum-requires
-add-sum-requires c κs = let a = c .before .before .before .before in (one-inside (a .args .shared .now) (a .args .n) (a .pre .1), a .pre .0)
+add-shared-requires : tie.Need-add-shared-requires
+add-shared-requires c κs = let a = c .before .before .before .before in (one-inside (a .args .shared .now) (a .args .n) (a .pre .1), a .pre .0)
 
 same-length : tie.Need-same-length
 same-length c = search needs
 
 returns : tie.Need-returns
-returns c = let a = c .before .before .before .before .before .before .before in one-added (a .args .shared .now) _ _ (a .args .to) (a .args .n) (c .before .before .add-sum .ensures)
+returns c = let a = c .before .before .before .before .before .before .before in one-added (a .args .shared .now) _ _ (a .args .to) (a .args .n) (c .before .before .add-shared .ensures)
 
 pub add-shared-spec : {M : Type 1} → statement M
-add-shared-spec = tie.close (tie.spec slice-aggregate-add-sum add-sum-requires same-length returns)
+add-shared-spec = tie.close (tie.spec slice-aggregate-add-shared add-shared-requires same-length returns)

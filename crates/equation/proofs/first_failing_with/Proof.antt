@@ -1,5 +1,6 @@
 -- `equation::first_failing_with` meets its contract. The loop's invariant: none of the first q equations fails in the window.
 use mathlib.Core.Path.{_≡_, sym, ap, _∙_}
+use mathlib.Core.Logic.{⊎-elim}
 use mathlib.Core.Bool.{false}
 use Prim.Native.Nat.{ℕ, _-_, _≤_, _<_}
 use native.Mathlib.Omega.{arith}
@@ -15,20 +16,30 @@ Inv-loop shape stripe at n shared count q₀ q = (q ≤ count) × ((k : ℕ) →
 abbrev μ-loop : tie.MeasureT-loop
 μ-loop shape stripe at n shared count q₀ q = count - q
 
+-- both ways tell whether the equation fails
+failing-is : (c : tie.Joined1 Inv-loop μ-loop) → let a = c .before .before .before .before .before .before .before .args in c .if1 .failing ≡ failsIn (a .shape) (a .stripe .now) (c .before .before .before .loop .q) (a .at) (a .n)
+failing-is c = ⊎-elim (λ w. w .2 ∙ w .1 .ensures) (λ w. w .2 ∙ w .1 .ensures) (c .if1 .came)
+
 equation-count-requires : tie.Need-equation-count-requires Inv-loop μ-loop
 equation-count-requires c κs = c .before .before .pre .0 .formed
 
 loop-holds : tie.Need-loop-holds Inv-loop μ-loop
 loop-holds c = (omega arith, λ k l. absurd (omega arith))
 
+takes-shared-requires : tie.Need-takes-shared-requires Inv-loop μ-loop
+takes-shared-requires c κs = c .before .before .before .before .before .pre .0 .formed
+
+fails-with-requires : tie.Need-fails-with-requires Inv-loop μ-loop
+fails-with-requires c κs = let a = c .before .before .before .before .before .before .before in (a .pre .0, omega (arith, c .before .before .before .before .equation-count .ensures), sym (c .before .takes-shared .ensures) ∙ c .if1 .taken, a .pre .1)
+
 fails-requires : tie.Need-fails-requires Inv-loop μ-loop
-fails-requires c κs = search needs
+fails-requires c κs = let a = c .before .before .before .before .before .before .before in (a .pre .0, omega (arith, c .before .before .before .before .equation-count .ensures), sym (c .before .takes-shared .ensures) ∙ c .if1 .left)
 
 returns : tie.Need-returns Inv-loop μ-loop
 returns c = record {
-  most = omega (arith, c .before .before .before .before .equation-count .ensures);
-  passes = λ l. sym (c .before .fails .ensures) ∙ c .if1 .taken;
-  before = c .before .before .before .loop .inv .1;
+  most = omega (arith, c .before .before .before .before .before .equation-count .ensures);
+  passes = λ l. sym (failing-is (c .before)) ∙ c .if2 .taken;
+  before = c .before .before .before .before .loop .inv .1;
 }
 
 add-q : tie.Need-add-q Inv-loop μ-loop
@@ -39,8 +50,8 @@ loop-less c = omega arith
 
 loop-again : tie.Need-loop-again Inv-loop μ-loop
 loop-again c =
-    let a = c .before .before .before .before .before .before .before .args in
-    (omega arith, λ k l. by-equal k _ (λ e. ap (λ (r : ℕ). failsIn (a .shape) (a .stripe .now) r (a .at) (a .n)) e ∙ sym (c .before .fails .ensures) ∙ c .if1 .left) (λ n. c .before .before .before .loop .inv .1 k (omega arith)))
+    let a = c .before .before .before .before .before .before .before .before .args in
+    (omega arith, λ k l. by-equal k _ (λ e. ap (λ (r : ℕ). failsIn (a .shape) (a .stripe .now) r (a .at) (a .n)) e ∙ sym (failing-is (c .before)) ∙ c .if2 .left) (λ n. c .before .before .before .before .loop .inv .1 k (omega arith)))
 
 returns-2 : tie.Need-returns-2 Inv-loop μ-loop
 returns-2 c = record {
@@ -57,6 +68,8 @@ first-failing-with-spec =
     μ-loop
     equation-count-requires
     loop-holds
+    takes-shared-requires
+    fails-with-requires
     fails-requires
     returns
     add-q

@@ -2,7 +2,7 @@
 use mathlib.Core.Path.{refl, sym, _∙_}
 use native.Mathlib.Omega.{arith}
 use borrow.Author.Tests.{not-true, not-false}
-use Rattle.equation.proofs.Windows.{listed-long, listed-inside, listed-put, unshared, shared-put}
+use Rattle.equation.proofs.Windows.{listed-long, listed-inside, listed-added, unshared, shared-put}
 use borrow.Author.Needs.{needs}
 use Rattle.equation.proofs.put_shared.Statement.{statement}
 use Rattle.equation.proofs.put_shared.Tie as tie
@@ -19,13 +19,13 @@ shared-cells-requires c κs = (c .before .before .before .before .before .pre .0
 array-share-prefix-places : tie.Need-array-share-prefix-places
 array-share-prefix-places c = search needs
 
-slice-aggregate-put-sum-from : tie.Need-slice-aggregate-put-sum-from
-slice-aggregate-put-sum-from c = let a = c .before .before .before .before .before .before .before .before in sym (listed-long (a .args .shape) (a .args .stripe .now) (a .args .at) (a .args .n) (a .pre .0) _ _ _ (c .before .before .shared-cells .ensures))
+slice-aggregate-add-shared : tie.Need-slice-aggregate-add-shared
+slice-aggregate-add-shared c = let a = c .before .before .before .before .before .before .before .before in sym (listed-long (a .args .shape) (a .args .stripe .now) (a .args .at) (a .args .n) (a .pre .0) _ _ _ (c .before .before .shared-cells .ensures))
 
-put-sum-from-requires : tie.Need-put-sum-from-requires
-put-sum-from-requires c κs =
+add-shared-requires : tie.Need-add-shared-requires
+add-shared-requires c κs =
     let a = c .before .before .before .before .before .before .before .before in
-    (listed-inside (a .args .shape) (a .args .stripe .now) (a .args .at) (a .args .n) (a .pre .0) _ _ _ (c .before .before .shared-cells .ensures), omega (arith, a .pre .1), omega (arith, a .pre .0 .ends, a .pre .0 .formed .cellHigh))
+    (listed-inside (a .args .shape) (a .args .stripe .now) (a .args .at) (a .args .n) (a .pre .0) _ _ _ (c .before .before .shared-cells .ensures), omega (arith, a .pre .1))
 
 same-length : tie.Need-same-length
 same-length c = search needs
@@ -33,8 +33,8 @@ same-length c = search needs
 returns-2 : tie.Need-returns-2
 returns-2 c =
     let a = c .before .before .before .before .before .before .before .before .before .before .before in
-    let put = c .before .before .put-sum-from .ensures in
-    (shared-put (a .args .shape) (a .args .stripe .now) (a .args .at) (a .args .n) _ _ (a .pre .1) (listed-put (a .args .shape) (a .args .stripe .now) (a .args .at) (a .args .n) (a .pre .0) _ _ _ (c .before .before .before .before .before .shared-cells .ensures) _ _ 0 put), put .long)
+    let put = c .before .before .add-shared .ensures in
+    (shared-put (a .args .shape) (a .args .stripe .now) (a .args .at) (a .args .n) _ _ (a .pre .1) (a .pre .2) (listed-added (a .args .shape) (a .args .stripe .now) (a .args .at) (a .args .n) (a .pre .0) _ _ _ (c .before .before .before .before .before .shared-cells .ensures) _ _ 0 put), put .long)
 
 pub put-shared-spec : {M : Type 1} → statement M
-put-shared-spec = tie.close (tie.spec shares-requires returns shared-cells-requires array-share-prefix-places slice-aggregate-put-sum-from put-sum-from-requires same-length returns-2)
+put-shared-spec = tie.close (tie.spec shares-requires returns shared-cells-requires array-share-prefix-places slice-aggregate-add-shared add-shared-requires same-length returns-2)

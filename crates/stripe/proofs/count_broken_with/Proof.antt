@@ -25,13 +25,25 @@ equation-count-requires c κs = search needs
 loop-holds : tie.Need-loop-holds Inv-loop μ-loop
 loop-holds c = (omega arith, sym (count-none _))
 
+takes-shared-requires : tie.Need-takes-shared-requires Inv-loop μ-loop
+takes-shared-requires c κs = c .before .before .before .before .before .pre .0
+
+fails-with-requires : tie.Need-fails-with-requires Inv-loop μ-loop
+fails-with-requires c κs = let a = c .before .before .before .before .before .before .before in (whole _ _ (a .pre .0) (a .pre .1), omega (arith, c .before .before .before .before .equation-count .ensures), sym (c .before .takes-shared .ensures) ∙ c .if1 .taken, a .pre .2)
+
 fails-requires : tie.Need-fails-requires Inv-loop μ-loop
-fails-requires c κs =
-    let start = c .before .before .before .before .before in
-    (whole _ _ (start .pre .0) (start .pre .1), omega (arith, c .before .before .equation-count .ensures), start .pre .2)
+fails-requires c κs = let a = c .before .before .before .before .before .before .before in (whole _ _ (a .pre .0) (a .pre .1), omega (arith, c .before .before .before .before .equation-count .ensures), sym (c .before .takes-shared .ensures) ∙ c .if1 .left)
+
+-- both ways tell whether the equation fails
+failing-is : (c : tie.Joined1 Inv-loop μ-loop) → let a = c .before .before .before .before .before .before .before .args in c .if1 .failing ≡ fails (a .shape) (a .stripe .now) (c .before .before .before .loop .q)
+failing-is c =
+    let a = c .before .before .before .before .before .before .before .args in
+    ⊎-elim (λ w. w .2 ∙ w .1 .ensures) (λ w. w .2 ∙ w .1 .ensures) (c .if1 .came) ∙ fails-whole (a .shape) (a .stripe .now) (c .before .before .before .loop .q)
 
 add-broken : tie.Need-add-broken Inv-loop μ-loop
-add-broken c = omega (arith, c .before .before .before .loop .inv .1, count-most (c .before .before .before .loop .q) (fails (c .before .before .before .before .before .before .before .args .shape) (c .before .before .before .before .before .before .before .args .stripe .now)), small-equations (c .before .before .before .before .before .before .before .args .shape) (c .before .before .before .before .before .before .before .pre .0), c .before .before .before .before .equation-count .ensures)
+add-broken c =
+    let a = c .before .before .before .before .before .before .before .before in
+    omega (arith, c .before .before .before .before .loop .inv .1, count-most (c .before .before .before .before .loop .q) (fails (a .args .shape) (a .args .stripe .now)), small-equations (a .args .shape) (a .pre .0), c .before .before .before .before .before .equation-count .ensures)
 
 add-q : tie.Need-add-q Inv-loop μ-loop
 add-q c = search needs
@@ -41,12 +53,12 @@ loop-less c = omega arith
 
 loop-again : tie.Need-loop-again Inv-loop μ-loop
 loop-again c =
-    let start = c .before .before .before .before .before .before .before in
-    let turn = c .before .before .before .loop in
-    let passed = count-in (turn .q) (turn .broken) (c .if1 .broken) (fails (start .args .shape) (start .args .stripe .now)) (turn .inv .1) in
-    let not-passed = count-out (turn .q) (turn .broken) (c .if1 .broken) (fails (start .args .shape) (start .args .stripe .now)) (turn .inv .1) in
-    let is = c .before .fails .ensures ∙ fails-whole (start .args .shape) (start .args .stripe .now) (turn .q) in
-    (omega arith, ⊎-elim (λ w. passed (sym is ∙ w .0 .taken) (w .1)) (λ w. not-passed (sym is ∙ w .0 .left) (w .1)) (c .if1 .came))
+    let a = c .before .before .before .before .before .before .before .before .args in
+    let turn = c .before .before .before .before .loop in
+    let passed = count-in (turn .q) (turn .broken) (c .if2 .broken) (fails (a .shape) (a .stripe .now)) (turn .inv .1) in
+    let not-passed = count-out (turn .q) (turn .broken) (c .if2 .broken) (fails (a .shape) (a .stripe .now)) (turn .inv .1) in
+    let is = failing-is (c .before) in
+    (omega arith, ⊎-elim (λ w. passed (sym is ∙ w .0 .taken) (w .1)) (λ w. not-passed (sym is ∙ w .0 .left) (w .1)) (c .if2 .came))
 
 returns : tie.Need-returns Inv-loop μ-loop
 returns c = counted-all _ _ _ _ (c .before .loop .inv .1) (omega (arith, c .before .before .equation-count .ensures))
@@ -59,6 +71,8 @@ count-broken-with-spec =
     μ-loop
     equation-count-requires
     loop-holds
+    takes-shared-requires
+    fails-with-requires
     fails-requires
     add-broken
     add-q
