@@ -48,6 +48,11 @@ fn put_totals(shape: Shape, stripe: &[u8], set: u64, at: usize, n: usize, lanes:
     requires { ⌜ InLane shape (now stripe) at n (now lanes) × ((r : ℕ) → bit r set ≡ true → r < equations shape) ⌝ }
     ensures { λ _. ⌜ Totals shape (now (stripe .entry)) set at n (now (lanes .exit)) ⌝ }
 {
+    if !codes::shares(shape) {
+        // nothing is shared: any bytes will do for it
+        put_totals_with(shape, stripe, set, at, n, stripe, lanes);
+        return;
+    }
     let mut shared = [0u8; LANE];
     equation::put_shared(shape, stripe, at, n, &mut shared);
     put_totals_with(shape, stripe, set, at, n, &shared, lanes);
