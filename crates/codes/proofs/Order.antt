@@ -3,7 +3,7 @@
 use mathlib.Core.Path.{_≡_, refl, sym, ap, _∙_}
 use mathlib.Core.Logic.{_≢_}
 use mathlib.Core.List.{List, [], _∷_, _++_}
-use mathlib.Core.Bool.{Bool, true, false, cond, not, _&&_, _||_}
+use mathlib.Core.Bool.{Bool, true, false, cond, not, _&&_, _||_, and-false}
 use Prim.Native.Nat.{ℕ, zero, suc, _≤_, _<_}
 use native.Mathlib.Omega.{arith}
 use lib.Dec.{eqb, leb, ltb}
@@ -48,11 +48,7 @@ not-among n (f ∷ faults) e =
 left-out : (numbers : List ℕ) (f : Fault) (faults : List Fault) → f .applies ≡ false → firstOf numbers (f ∷ faults) ≡ firstOf numbers faults
 unfolding firstOf applies
 left-out [] f faults off = refl
-left-out (n ∷ numbers) f faults off = rw (left-out numbers f faults off, off, never (eqb (f .number) n)) refl
-  where
-    never : (b : Bool) → (b && false) ≡ false
-    never true = refl
-    never false = refl
+left-out (n ∷ numbers) f faults off = rw (left-out numbers f faults off, off, and-false (eqb (f .number) n)) refl
 
 -- one that applies is given where no other has a number before its own
 is-given : (numbers : List ℕ) (f : Fault) (faults : List Fault) → leads numbers (f .number) faults ≡ true → f .applies ≡ true → firstOf numbers (f ∷ faults) ≡ f .number

@@ -1,8 +1,8 @@
 -- What equations share: an equation sums its own cells and, where it takes them in, the shared ones. Only EVENODD has such, and they are data.
 use mathlib.Core.Path.{_≡_, refl, sym, ap, _∙_}
 use mathlib.Core.Logic.{_≢_}
-use mathlib.Core.Bool.{Bool, true, false, cond, not, _&&_, _||_}
-use Prim.Native.Nat.{ℕ, _+_, _-_, _/_, _%_, _≤_, _<_}
+use mathlib.Core.Bool.{Bool, true, false, cond, _&&_, and-true, and-false}
+use Prim.Native.Nat.{ℕ, _-_, _/_, _%_, _<_}
 use native.Mathlib.Omega.{arith}
 use lib.Dec.{eqb, leb, ltb}
 use borrow.Author.Tests.{eqb-true, ne-eqb, leb-true, lt-leb, ltb-true}
@@ -12,7 +12,7 @@ use Rattle.xor.proofs.Algebra.{zero-⊕, ⊕-zero, ⊕-assoc}
 use Rattle.xor.proofs.Sums.{xors-same, xors-plus}
 use Rattle.codes.specs.declared.Shape.{Shape}
 use Rattle.codes.specs.declared.Line.{Line}
-use Rattle.codes.specs.Shape.{rows, cells, equations, WellFormed}
+use Rattle.codes.specs.Shape.{rows, cells, WellFormed}
 use Rattle.codes.specs.Geometry.{callersCell}
 use Rattle.codes.specs.Equations.{evenoddS}
 use Rattle.codes.specs.Encoded.{parityCell, sumsCell, sumOver, total, isParity}
@@ -71,20 +71,12 @@ module _ (s : Shape) where
   -- rows never do
   pub row-takes : (q : ℕ) → q < rows s → takesShared s q ≡ false
   unfolding takesShared
-  row-takes q l = rw (lt-leb (rows s) q l) (never (shares s))
-    where
-      never : (b : Bool) → (b && false) ≡ false
-      never true = refl
-      never false = refl
+  row-takes q l = rw (lt-leb (rows s) q l) (and-false (shares s))
 
   -- an equation that takes in nothing sums its cells by itself
   pub own-plain : (q : ℕ) → takesShared s q ≡ false → (c : ℕ) → sumsCell s q c ≡ ownCell s q c
   unfolding ownCell
-  own-plain q h c = rw h (sym (always (sumsCell s q c)))
-    where
-      always : (b : Bool) → (b && true) ≡ b
-      always true = refl
-      always false = refl
+  own-plain q h c = rw h (sym (and-true (sumsCell s q c)))
 
   pub own-all : (q : ℕ) → takesShared s q ≡ false → (f : ℕ → ℕ) → sumWhere s (ownCell s q) f ≡ sumOver s q f
   unfolding sumOver sumWhere

@@ -17,7 +17,7 @@ use Rattle.xor.proofs.Sums.{xors-same, xors-more}
 use Rattle.codes.specs.declared.Shape.{Shape}
 use Rattle.codes.specs.declared.Line.{Line}
 use Rattle.codes.specs.declared.Sources.{Sources}
-use Rattle.codes.specs.Shape.{cells, equations, stripeLength, WellFormed}
+use Rattle.codes.specs.Shape.{equations, stripeLength, WellFormed}
 use Rattle.codes.specs.Geometry.{callersCell, place}
 use Rattle.codes.specs.Encoded.{parityCell, sumsCell, byteAt}
 use Rattle.codes.specs.Lines.{ownCell, sumWhere, walked, Short, Covers, Walks, Placed, PlacedAll, Listing, Found, Holding}

@@ -42,8 +42,7 @@ evenoddRow p r = record { row = r; column = p; sums = λ i j. eqb i r && ltb j p
 abbrev pub evenoddS : ℕ → ℕ → ℕ → Bool
 evenoddS p i j = ltb 0 j && (ltb j p && eqb i (p - 1 - j))
 
--- EVENODD, diagonal equation d: (d, p+1) is S and the XOR of all data cells (i, j), j from 0 to p-1 and i from 0 to p-2, with i+j = d mod p; those of S
--- have i+j = p-1, so none counts twice, and there is no row p-1
+-- EVENODD, diagonal equation d: (d, p+1) is S and the XOR of all data cells (i, j) with i+j = d mod p; the cells of S have i+j = p-1, so none counts twice
 abbrev pub evenoddDiagonal : ℕ → ℕ → Equation
 evenoddDiagonal p d = record { row = d; column = p + 1; sums = λ i j. evenoddS p i j || (ltb j p && eqb ((i + j) % p) d) }
 

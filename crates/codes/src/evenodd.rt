@@ -80,7 +80,7 @@ fn with_diagonals(shape: Shape, row: usize) -> u64
     ensures { λ r. ⌜ NamedFrom shape row (shape .p - 1) r ⌝ }
 {
     let n = shape.p - 1;
-    let all = bits::one_bit(2 * n) - 1;
+    let all = bits::one_bit(n + n) - 1;
     let rows = bits::one_bit(n) - 1;
     bits::one_bit(row) | (all ^ rows)
 }

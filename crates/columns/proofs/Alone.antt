@@ -10,7 +10,7 @@ use Rattle.codes.specs.Shape.{rows, cells, equations, cellNumber, WellFormed}
 use Rattle.codes.specs.Holders.{holds}
 use Rattle.codes.proofs.Geometry.{number-at, row-at}
 use Rattle.codes.proofs.Depends.{held-some}
-use Rattle.columns.proofs.Columns.{Meets, meets-only}
+use Rattle.columns.proofs.Columns.{Meets}
 use Rattle.columns.proofs.TwoColumns.{lowest-meets}
 
 module _ (s : Shape) (w : WellFormed s) (c : ℕ) (inside : c < cells s) (q : ℕ) (h : IsLowest (equations s) (λ k. holds s k c) q) where
@@ -27,4 +27,4 @@ module _ (s : Shape) (w : WellFormed s) (c : ℕ) (inside : c < cells s) (q : �
       met = lowest-meets s w q c lowest-there inside (h .before)
 
       in-row : (k : ℕ) → k / rows s ≡ c / rows s → holds s q k ≡ true → k % rows s ≡ met .0
-      in-row k e p = meets-only s w q (c / rows s) (met .0) (k % rows s) (met .1) (row-at s w k) (ap (λ (j : ℕ). holds s q (cellNumber s (k % rows s) j)) (sym e) ∙ ap (holds s q) (number-at s w k) ∙ p)
+      in-row k e p = met .1 .nowhere-else (k % rows s) (row-at s w k) (ap (λ (j : ℕ). holds s q (cellNumber s (k % rows s) j)) (sym e) ∙ ap (holds s q) (number-at s w k) ∙ p)

@@ -17,6 +17,7 @@ use Rattle.codes.specs.Shape.{rows, columns, cells, equations, cellNumber, Well
 use Rattle.codes.specs.Equations.{Equation, equation}
 use Rattle.codes.specs.Encoded.{parityCell, sumsCell, Solves}
 use Rattle.codes.specs.Holders.{holds}
+use Rattle.codes.specs.Lines.{sumWhere}
 use Rattle.codes.proofs.Shapes.{rows-low}
 use Rattle.codes.proofs.Positions.{row-is, column-is, cell-is, cell-inside, parity-of, sums-of}
 use Rattle.codes.proofs.Solutions.{plus, total-zero, total-holds}
@@ -24,10 +25,6 @@ use Rattle.codes.proofs.Solutions.{plus, total-zero, total-holds}
 -- the values in the cells of line t, and 0 elsewhere
 abbrev along : (ℕ → Bool) → (ℕ → ℕ) → ℕ → ℕ
 along t v c = cond (t c) (v c) 0
-
--- the XOR of the values in the cells of line t
-abbrev pub lineSum : Shape → (ℕ → Bool) → (ℕ → ℕ) → ℕ
-lineSum s t v = xors (cells s) (along t v)
 
 -- what column j has in row i; 0 where there is no such row
 unfoldable pub entry : Shape → (ℕ → ℕ) → ℕ → ℕ → ℕ
@@ -81,10 +78,6 @@ module _ (s : Shape) (w : WellFormed s) where
           (λ h. summed i l (sym (sums-of s w q e is i j l) ∙ h));
     }
 
-  -- a cell of column j that equation q holds is in the row where they meet
-  pub meets-only : (q j r i : ℕ) → Meets s q j r → i < rows s → holds s q (cellNumber s i j) ≡ true → i ≡ r
-  meets-only q j r i m = m .nowhere-else i
-
   -- ---- values by columns
 
   module _ (v : ℕ → ℕ) where
@@ -127,7 +120,8 @@ module _ (s : Shape) (w : WellFormed s) where
 
     module _ (a b : ℕ) (h : OnTwo s v a b) where
       -- the sum of a line is that of its cells in the two columns
-      pub crossed : (t : ℕ → Bool) (i k : ℕ) → a < columns s → b < columns s → Crosses s t a i → Crosses s t b k → lineSum s t v ≡ entry s v a i ⊕ entry s v b k
+      pub crossed : (t : ℕ → Bool) (i k : ℕ) → a < columns s → b < columns s → Crosses s t a i → Crosses s t b k → sumWhere s t v ≡ entry s v a i ⊕ entry s v b k
+      unfolding sumWhere
       crossed t i k la lb xa xb =
           xors-same (cells s) (along t v) (plus (only s a (along t v)) (only s b (along t v)))
           (λ c l. two-columns-only (along t v) a b c (h .apart) (λ n m. nothing (t c) (v c) (h .off c l n m)))
@@ -135,6 +129,7 @@ module _ (s : Shape) (w : WellFormed s) where
 
       -- an equation says that its cells in the two columns are equal
       pub balanced : (q i k : ℕ) → q < equations s → a < columns s → b < columns s → Meets s q a i → Meets s q b k → entry s v a i ≡ entry s v b k
+      unfolding sumWhere
       balanced q i k lq la lb ma mb =
           ⊕-equal (entry s v a i) (entry s v b k) (sym (crossed (holds s q) i k la lb ma mb) ∙ total-holds s w q lq v ∙ total-zero s q v (h .solves q lq))
 

@@ -1,4 +1,5 @@
--- In each code any two columns are determined by the rest; so at most one column can be named bad. The lowest equation that holds a cell has at most one cell in its column.
+-- In each code any two columns are determined by the rest; so at most one column can be named bad. The lowest equation that holds a cell has at most one
+-- cell in its column.
 use mathlib.Core.Path.{_≡_, sym, _∙_}
 use mathlib.Core.Logic.{_≢_}
 use mathlib.Core.Bool.{false}

@@ -1,6 +1,6 @@
 -- EVENODD: a solution that is 0 off two columns is 0. There are p lines: the diagonals, each with its parity cell, and line p-1, whose cells are those of S.
--- A diagonal's equation says that its line and line p-1 have the same sum, so all lines have one sum. It turns out to be 0; then going along a row and along a line in turn
--- leads through both columns, from the row p-1, which is not there.
+-- A diagonal's equation says that its line and line p-1 have the same sum, so all lines have one sum. It turns out to be 0; then going along a row and along
+-- a line in turn leads through both columns, from the row p-1, which is not there.
 use mathlib.Core.Path.{_≡_, refl, sym, ap, ap₂, _∙_, subst}
 use mathlib.Core.Logic.{_≢_, inl, inr}
 use mathlib.Core.Bool.{Bool, true, false, cond, _&&_, _||_}
@@ -18,6 +18,7 @@ use Rattle.codes.specs.Shape.{listed, rows, columns, cells, equations, cellNumb
 use Rattle.codes.specs.Equations.{evenoddRow, evenoddS, evenoddDiagonal}
 use Rattle.codes.specs.Encoded.{parityCell, sumsCell, Solves}
 use Rattle.codes.specs.Holders.{holds}
+use Rattle.codes.specs.Lines.{sumWhere}
 use Rattle.codes.proofs.Shapes.{low, each-prime}
 use Rattle.codes.proofs.Residues.{wrapped}
 use Rattle.codes.proofs.Lines.{evenodd-rows, evenodd-columns, evenodd-n, evenodd-row-is}
@@ -25,7 +26,7 @@ use Rattle.codes.proofs.Positions.{families, row-is, column-is, cell-is, same-r
 use Rattle.codes.proofs.Geometry.{row-at, column-at}
 use Rattle.codes.proofs.Solutions.{total-zero, total-holds}
 use Rattle.columns.proofs.Paths.{shift-once, shift-from, along-path}
-use Rattle.columns.proofs.Columns.{Crosses, Meets, OnTwo, lineSum, entry, entry-out, meets, crossed, balanced, all-zero}
+use Rattle.columns.proofs.Columns.{Crosses, Meets, OnTwo, entry, entry-out, meets, crossed, balanced, all-zero}
 
 -- ---- sums over all residues mod p
 
@@ -74,7 +75,7 @@ on s d c = eqb (lineOf (s .p) (c % rows s) (c / rows s)) d
 
 -- the sum of line p-1
 abbrev lastSum : Shape → (ℕ → ℕ) → ℕ
-lastSum s v = lineSum s (on s (s .p - 1)) v
+lastSum s v = sumWhere s (on s (s .p - 1)) v
 
 -- a number is one of two at most
 one-of-two : (n d e x : ℕ) → d ≢ e → cond (eqb n d || eqb n e) x 0 ≡ cond (eqb n d) x 0 ⊕ cond (eqb n e) x 0
@@ -180,15 +181,16 @@ module _ (s : Shape) (w : WellFormed s) (is-evenodd : s .code ≡ 4) where
       summed e = or-right (eqb (cellNumber s i j) (parityCell s (s .p - 1 + d))) (sums ∙ e)
 
   -- so all lines have one sum
-  one-sum : (v : ℕ → ℕ) → Solves s v → (d : ℕ) → d < s .p → lineSum s (on s d) v ≡ lastSum s v
-  one-sum v h d l = by-less d (s .p - 1) on-equation (λ k. ap (λ (e : ℕ). lineSum s (on s e) v) (last k))
+  one-sum : (v : ℕ → ℕ) → Solves s v → (d : ℕ) → d < s .p → sumWhere s (on s d) v ≡ lastSum s v
+  unfolding sumWhere
+  one-sum v h d l = by-less d (s .p - 1) on-equation (λ k. ap (λ (e : ℕ). sumWhere s (on s e) v) (last k))
     where
       last : s .p - 1 ≤ d → d ≡ s .p - 1
       last k = omega arith
 
-      on-equation : d < s .p - 1 → lineSum s (on s d) v ≡ lastSum s v
+      on-equation : d < s .p - 1 → sumWhere s (on s d) v ≡ lastSum s v
       on-equation k =
-          ⊕-equal (lineSum s (on s d) v) (lastSum s v)
+          ⊕-equal (sumWhere s (on s d) v) (lastSum s v)
           (sym (xors-plus (cells s) (λ c. cond (on s d c) (v c) 0) (λ c. cond (on s (s .p - 1) c) (v c) 0))
           ∙ sym (xors-same (cells s) (λ c. cond (holds s (s .p - 1 + d) c) (v c) 0) (λ c. cond (on s d c) (v c) 0 ⊕ cond (on s (s .p - 1) c) (v c) 0)
           (λ c lc. ap (λ (b : Bool). cond b (v c) 0) (ap (holds s (s .p - 1 + d)) (sym (cell-is s w c)) ∙ diagonal-holds d (c % rows s) (c / rows s) k (row-at s w c) (column-at s w c lc))

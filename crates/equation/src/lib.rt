@@ -10,24 +10,21 @@ ghost use Rattle.xor.specs.Runs.{Put};
 ghost use Rattle.bits.specs.Bit.{IsLowest};
 ghost use Rattle.codes.specs.Shape.{equations, stripeLength, WellFormed};
 ghost use Rattle.codes.specs.Encoded.{total};
-ghost use Rattle.codes.specs.Lines.{takesShared, ownCell, sumWhere, ownTotal};
+ghost use Rattle.codes.specs.Lines.{shares, takesShared, ownCell, sumWhere, ownTotal};
 ghost use Rattle.equation.specs.Window.{bytesAt, Window, Shares, SharedByte, ParityPut, ParitySet, failsIn};
 use codes::Shape;
 
-// Puts n bytes of what several equations share into the first n of `shared`, which are zeros, where there is such.
+// Puts n bytes of what several equations share into the first n of `shared`, which are zeros.
 pub fn put_shared(shape: Shape, stripe: &[u8], at: usize, n: usize, shared: &mut [u8])
-    requires { ⌜ Window shape (now stripe) at n × (n ≤ length (now shared)) × ((i : ℕ) → i < n → getD (now shared) i 0 ≡ 0) ⌝ }
+    requires { ⌜ Window shape (now stripe) at n × (shares shape ≡ true) × (n ≤ length (now shared)) × ((i : ℕ) → i < n → getD (now shared) i 0 ≡ 0) ⌝ }
     ensures { λ _. ⌜ Shares shape (now (stripe .entry)) at n (now (shared .exit)) × (length (now (shared .exit)) ≡ length (now (shared .entry))) ⌝ }
 {
-    if !codes::shares(shape) {
-        return;
-    }
     let mut places = [0usize; codes::PLACES];
     let count = codes::shared_cells(shape, &mut places);
     xor::add_shared(shared, 0, stripe, &places[..count], at, n);
 }
 
-// The same in byte t.
+// The XOR of the cells that several equations share, in byte t, where there are such.
 pub fn shared_byte(shape: Shape, stripe: &[u8], t: usize) -> u8
     requires { ⌜ WellFormed shape × (length (now stripe) ≡ stripeLength shape) × (t < shape .cell) ⌝ }
     ensures { λ r. ⌜ SharedByte shape (now (stripe .entry)) t r ⌝ }

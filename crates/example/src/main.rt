@@ -1,4 +1,4 @@
-// The calls from Rattle, on a small RDP stripe: p = 3, cells of one byte, 2 rows and 4 columns.
+// The calls from Rattle, on small stripes: RDP with p = 3 and cells of one byte, 2 rows and 4 columns, then a shelf of five disks, then EVENODD.
 use bad::BadColumn;
 use codes::Counted;
 use codes::Shape;
@@ -61,6 +61,26 @@ fn five_disks() {
     );
 }
 
+// EVENODD with p = 3: three disks of data and two of parity. Row 1 of disk 1 is one of the cells of S.
+fn evenodd() {
+    let shape = Shape {
+        code: 4,
+        p: 3,
+        cell: 1,
+        width: Width::Full,
+    };
+    let mut stripe = [1u8; 10];
+    tell(b"encode EVENODD", stripe::encode(shape, &mut stripe));
+    match stripe::write(shape, &mut stripe, 1, 1, &[0x00u8]) {
+        Counted::Count(count) => tell(b"parity cells that depend on row 1, disk 1", count),
+        Counted::Refused(number) => tell(b"write refused", number),
+    }
+    tell(
+        b"its disks 1 and 2 lost",
+        rebuild::columns(shape, &mut stripe, 1, 2),
+    );
+}
+
 fn main() {
     let shape = Shape {
         code: 1,
@@ -91,4 +111,5 @@ fn main() {
         rebuild::cells(shape, &mut stripe, &[0usize, 4, 6]),
     );
     five_disks();
+    evenodd();
 }

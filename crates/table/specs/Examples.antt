@@ -111,28 +111,28 @@ shelves =
     ∷ []
 
 -- a stripe of EVENODD, by the bytes of its columns 1, 3 and 4
-abbrev pub members : ℕ → ℕ → ℕ → ℕ → ℕ → ℕ → List ℕ
-members a b c d e f = 0x01 ∷ 0x02 ∷ a ∷ b ∷ 0x10 ∷ 0x20 ∷ c ∷ d ∷ e ∷ f ∷ []
+abbrev pub evenoddStripe : ℕ → ℕ → ℕ → ℕ → ℕ → ℕ → List ℕ
+evenoddStripe a b c d e f = 0x01 ∷ 0x02 ∷ a ∷ b ∷ 0x10 ∷ 0x20 ∷ c ∷ d ∷ e ∷ f ∷ []
 
 -- the encoded one, and one with other bytes found in column 1
-abbrev pub right : List ℕ
-right = members 0x04 0x08 0x15 0x2A 0x39 0x1E
+abbrev pub evenoddRight : List ℕ
+evenoddRight = evenoddStripe 0x04 0x08 0x15 0x2A 0x39 0x1E
 
-abbrev pub wrong : List ℕ
-wrong = members 0xEE 0xEE 0x15 0x2A 0x39 0x1E
+abbrev pub evenoddWrong : List ℕ
+evenoddWrong = evenoddStripe 0xEE 0xEE 0x15 0x2A 0x39 0x1E
 
 -- the same of EVENODD, for document 02, request 03: a write off S and one on it, what one cell of S breaks, column 1 found, columns 1 and 2 rebuilt, one lost
 -- cell too many, and a run refused
 unfoldable pub evenodds : List Example
 evenodds =
-    record { number = 3; shape = small 4; claim = encoded; stripe = right }
-    ∷ record { number = 3; shape = small 4; claim = written 0 1 (0x05 ∷ []) (members 0x05 0x08 0x14 0x2A 0x39 0x1F) 2; stripe = right }
-    ∷ record { number = 3; shape = small 4; claim = written 1 1 (0x09 ∷ []) (members 0x04 0x09 0x15 0x2B 0x38 0x1F) 3; stripe = right }
-    ∷ record { number = 3; shape = small 4; claim = broken 3; stripe = members 0x04 0x09 0x15 0x2A 0x39 0x1E }
-    ∷ record { number = 3; shape = small 4; claim = found (Column 1); stripe = wrong }
-    ∷ record { number = 3; shape = small 4; claim = rebuilt (2 ∷ 3 ∷ 4 ∷ 5 ∷ []) right; stripe = wrong }
-    ∷ record { number = 3; shape = small 4; claim = rebuildRefused (2 ∷ 3 ∷ 4 ∷ 5 ∷ 0 ∷ []) 11; stripe = wrong }
-    ∷ record { number = 3; shape = small 4; claim = runRefused 0 0 3; stripe = right }
+    record { number = 3; shape = small 4; claim = encoded; stripe = evenoddRight }
+    ∷ record { number = 3; shape = small 4; claim = written 0 1 (0x05 ∷ []) (evenoddStripe 0x05 0x08 0x14 0x2A 0x39 0x1F) 2; stripe = evenoddRight }
+    ∷ record { number = 3; shape = small 4; claim = written 1 1 (0x09 ∷ []) (evenoddStripe 0x04 0x09 0x15 0x2B 0x38 0x1F) 3; stripe = evenoddRight }
+    ∷ record { number = 3; shape = small 4; claim = broken 3; stripe = evenoddStripe 0x04 0x09 0x15 0x2A 0x39 0x1E }
+    ∷ record { number = 3; shape = small 4; claim = found (Column 1); stripe = evenoddWrong }
+    ∷ record { number = 3; shape = small 4; claim = rebuilt (2 ∷ 3 ∷ 4 ∷ 5 ∷ []) evenoddRight; stripe = evenoddWrong }
+    ∷ record { number = 3; shape = small 4; claim = rebuildRefused (2 ∷ 3 ∷ 4 ∷ 5 ∷ 0 ∷ []) 11; stripe = evenoddWrong }
+    ∷ record { number = 3; shape = small 4; claim = runRefused 0 0 3; stripe = evenoddRight }
     ∷ []
 
 -- a spare for a stripe's column

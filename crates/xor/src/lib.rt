@@ -361,21 +361,19 @@ pub fn add_sum(d: &mut [u8], to: usize, s: &[u8], places: &[usize], at: usize, n
     }
 }
 
-// The same for what several equations share. It stands beside add_sum since a second caller of that would cost the rebuilds their speed.
+// The same for equations that share cells, over any list. It stands beside add_sum since a second caller of that would cost the rebuilds their
+// speed.
 pub fn add_shared(d: &mut [u8], to: usize, s: &[u8], places: &[usize], at: usize, n: usize)
-    requires { ⌜ Inside (length (now s)) (now places) (at + n) × (to + n ≤ length (now d)) ⌝ }
+    requires { ⌜ Inside (length (now s)) (now places) (at + n) × (to + n ≤ length (now d)) × (at + n < 2 ^ 64) ⌝ }
     ensures { λ _. ⌜ Put (now (d .entry)) to n (addedTo (now (d .entry)) to (now (s .entry)) (now (places .entry)) at) (now (d .exit)) ⌝ }
 {
-    if places.len() == 0 {
-        return;
+    let mut added = 0;
+    while BLOCK <= n - added {
+        add_block_sum(d, to + added, s, places, at + added, BLOCK);
+        added += BLOCK;
     }
-    let mut done = 0;
-    while BLOCK <= n - done {
-        add_block_sum(d, to + done, s, places, at + done, BLOCK);
-        done += BLOCK;
-    }
-    if done < n {
-        add_block_sum(d, to + done, s, places, at + done, n - done);
+    if added < n {
+        add_block_sum(d, to + added, s, places, at + added, n - added);
     }
 }
 

@@ -19,11 +19,12 @@ const LONGEST: usize = 4 + 4 + 5 + (3 + 2 * MOST_LOST) + (3 + MOST as usize);
 /// The job of the scope document's example, with and without the cell size told, and
 /// others with stripes and lists longer than 256 bytes.
 const SMALL: Shape = Shape::new(1, 3, 1);
-const BASES: [(Shape, bool); 4] = [
+const BASES: [(Shape, bool); 5] = [
     (SMALL, true),
     (Shape::new(1, 3, USUAL_CELL), false),
     (Shape::new(2, 5, USUAL_CELL), false),
     (Shape::new(3, 11, 259), true),
+    (Shape::new(4, 3, USUAL_CELL), false),
 ];
 
 /// Cell sizes of jobs with and without theirs told: the one that is meant where none is,
@@ -100,12 +101,13 @@ impl Cases<'_> {
     /// list, of stripes that are encoded and others.
     fn every_kind(&mut self) {
         for (code, p) in codes() {
-            let largest = (MOST / self.full(code, p).cells() as u64).min(4096);
+            let (cells, columns) = (self.full(code, p).cells() as u64, self.full(code, p).columns);
+            let largest = (MOST / cells).min(4096);
             let any = 1 + self.random.below(largest as usize) as u64;
             for cell in [1, 3, any, largest] {
                 let shape = Shape::new(code, p, cell);
                 let fill = self.random.one_of(&FILLS);
-                let [a, b] = [0, 1].map(|_| self.random.below(p as usize));
+                let [a, b] = [0, 1].map(|_| self.random.below(columns));
                 for (fill, base, less, more) in [
                     (fill, Base::Empty, 0, 0),
                     (Fill::Encoded, Base::Columns(a, b), 0, 0),

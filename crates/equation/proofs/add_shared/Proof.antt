@@ -1,4 +1,5 @@
 -- `equation::add_shared` meets its contract. One run, at the first place, is added.
+use native.Mathlib.Omega.{arith}
 use Rattle.equation.proofs.Windows.{one-inside, one-added}
 use borrow.Author.Needs.{needs}
 use Rattle.equation.proofs.add_shared.Statement.{statement}
@@ -8,7 +9,7 @@ slice-aggregate-add-shared : tie.Need-slice-aggregate-add-shared
 slice-aggregate-add-shared c = search needs
 
 add-shared-requires : tie.Need-add-shared-requires
-add-shared-requires c κs = let a = c .before .before .before .before in (one-inside (a .args .shared .now) (a .args .n) (a .pre .1), a .pre .0)
+add-shared-requires c κs = let a = c .before .before .before .before in (one-inside (a .args .shared .now) (a .args .n) (a .pre .1), a .pre .0, omega (arith, a .fits .n))
 
 same-length : tie.Need-same-length
 same-length c = search needs

@@ -2,6 +2,7 @@
 use Prim.Native.Nat.{ℕ}
 use native.Mathlib.Omega.{arith}
 use lib.ListN.{length-replicate}
+use Rattle.codes.proofs.Shared.{takes-shares}
 use Rattle.equation.proofs.Windows.{new-zeros, buffer-inside, buffer-failing}
 use borrow.Author.Needs.{needs}
 use Rattle.equation.proofs.failing_with_shared.Statement.{statement}
@@ -11,7 +12,7 @@ slice-aggregate-put-shared : tie.Need-slice-aggregate-put-shared
 slice-aggregate-put-shared c = search needs
 
 put-shared-requires : tie.Need-put-shared-requires
-put-shared-requires c κs = let a = c .before .before in (a .pre .0, omega (arith, a .pre .0 .ends, a .pre .0 .formed .cellHigh, length-replicate {A = ℕ} 4096 0), λ i l. new-zeros 4096 i)
+put-shared-requires c κs = let a = c .before .before in (a .pre .0, takes-shares (a .args .shape) (a .args .q) (a .pre .3), omega (arith, a .pre .0 .ends, a .pre .0 .formed .cellHigh, length-replicate {A = ℕ} 4096 0), λ i l. new-zeros 4096 i)
 
 slice-aggregate-add-own : tie.Need-slice-aggregate-add-own
 slice-aggregate-add-own c = search needs

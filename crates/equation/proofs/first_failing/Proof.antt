@@ -3,7 +3,7 @@ use mathlib.Core.Path.{sym, _∙_}
 use Prim.Native.Nat.{ℕ}
 use native.Mathlib.Omega.{arith}
 use lib.ListN.{length-replicate}
-use borrow.Author.Tests.{not-true}
+use borrow.Author.Tests.{not-true, not-false}
 use Rattle.equation.proofs.Windows.{new-zeros, unshared}
 use borrow.Author.Needs.{needs}
 use Rattle.equation.proofs.first_failing.Statement.{statement}
@@ -22,7 +22,7 @@ slice-aggregate-put-shared : tie.Need-slice-aggregate-put-shared
 slice-aggregate-put-shared c = search needs
 
 put-shared-requires : tie.Need-put-shared-requires
-put-shared-requires c κs = let a = c .before .before .before .before in (a .pre, omega (arith, a .pre .ends, a .pre .formed .cellHigh, length-replicate {A = ℕ} 4096 0), λ i l. new-zeros 4096 i)
+put-shared-requires c κs = let a = c .before .before .before .before in (a .pre, sym (c .before .before .shares .ensures) ∙ not-false _ (c .before .if1 .left), omega (arith, a .pre .ends, a .pre .formed .cellHigh, length-replicate {A = ℕ} 4096 0), λ i l. new-zeros 4096 i)
 
 slice-aggregate-first-failing-with : tie.Need-slice-aggregate-first-failing-with
 slice-aggregate-first-failing-with c = search needs

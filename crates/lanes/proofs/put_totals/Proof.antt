@@ -3,7 +3,7 @@ use mathlib.Core.Path.{sym, _∙_}
 use Prim.Native.Nat.{ℕ}
 use native.Mathlib.Omega.{arith}
 use lib.ListN.{length-replicate}
-use borrow.Author.Tests.{not-true}
+use borrow.Author.Tests.{not-true, not-false}
 use Rattle.equation.proofs.Windows.{new-zeros, unshared}
 use borrow.Author.Needs.{needs}
 use Rattle.lanes.proofs.put_totals.Statement.{statement}
@@ -25,7 +25,7 @@ slice-aggregate-put-shared : tie.Need-slice-aggregate-put-shared
 slice-aggregate-put-shared c = search needs
 
 put-shared-requires : tie.Need-put-shared-requires
-put-shared-requires c κs = let a = c .before .before .before .before .before in (a .pre .0 .window, omega (arith, a .pre .0 .few, length-replicate {A = ℕ} 512 0), λ i l. new-zeros 512 i)
+put-shared-requires c κs = let a = c .before .before .before .before .before in (a .pre .0 .window, sym (c .before .before .shares .ensures) ∙ not-false _ (c .before .if1 .left), omega (arith, a .pre .0 .few, length-replicate {A = ℕ} 512 0), λ i l. new-zeros 512 i)
 
 slice-aggregate-put-totals-with : tie.Need-slice-aggregate-put-totals-with
 slice-aggregate-put-totals-with c = search needs

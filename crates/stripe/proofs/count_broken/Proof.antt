@@ -3,7 +3,7 @@ use mathlib.Core.Path.{sym, _∙_}
 use Prim.Native.Nat.{ℕ}
 use native.Mathlib.Omega.{arith}
 use lib.ListN.{length-replicate}
-use borrow.Author.Tests.{not-true}
+use borrow.Author.Tests.{not-true, not-false}
 use Rattle.equation.proofs.Windows.{whole, new-zeros, unshared}
 use borrow.Author.Needs.{needs}
 use Rattle.stripe.proofs.count_broken.Statement.{statement}
@@ -22,7 +22,7 @@ slice-aggregate-put-shared : tie.Need-slice-aggregate-put-shared
 slice-aggregate-put-shared c = search needs
 
 put-shared-requires : tie.Need-put-shared-requires
-put-shared-requires c κs = let a = c .before .before .before .before in (whole _ _ (a .pre .0) (a .pre .1), omega (arith, a .pre .0 .cellHigh, length-replicate {A = ℕ} 4096 0), λ i l. new-zeros 4096 i)
+put-shared-requires c κs = let a = c .before .before .before .before in (whole _ _ (a .pre .0) (a .pre .1), sym (c .before .before .shares .ensures) ∙ not-false _ (c .before .if1 .left), omega (arith, a .pre .0 .cellHigh, length-replicate {A = ℕ} 4096 0), λ i l. new-zeros 4096 i)
 
 slice-aggregate-count-broken-with : tie.Need-slice-aggregate-count-broken-with
 slice-aggregate-count-broken-with c = search needs

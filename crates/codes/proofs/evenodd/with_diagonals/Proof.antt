@@ -1,6 +1,6 @@
 -- `codes::evenodd::with_diagonals` meets its contract. One row, and all equations after the rows.
-use mathlib.Core.Path.{sym}
-use Prim.Native.Nat.{_-_, _*_}
+use mathlib.Core.Path.{_≡_}
+use Prim.Native.Nat.{ℕ, _+_, _-_, _^_, _≤_}
 use native.Mathlib.Omega.{arith}
 use lib.Pow.{pow-pos}
 use Rattle.codes.proofs.Shapes.{low, high}
@@ -9,23 +9,27 @@ use Rattle.codes.proofs.Held.{from-is}
 use Rattle.codes.proofs.evenodd.with_diagonals.Statement.{statement}
 use Rattle.codes.proofs.evenodd.with_diagonals.Tie as tie
 
+-- a power of two is not zero
+some : (x k : ℕ) → x ≡ 2 ^ k → 1 ≤ x
+some x k e = omega (arith, e, pow-pos k)
+
 sub-n : tie.Need-sub-n
 sub-n c = omega (arith, low (c .before .args .shape) (c .before .pre .0))
 
-mul-one-bit : tie.Need-mul-one-bit
-mul-one-bit c = omega (arith, high (c .before .args .shape) (c .before .pre .0))
+add-one-bit : tie.Need-add-one-bit
+add-one-bit c = omega (arith, high (c .before .args .shape) (c .before .pre .0))
 
 one-bit-requires : tie.Need-one-bit-requires
 one-bit-requires c κs = omega (arith, high (c .before .args .shape) (c .before .pre .0))
 
 sub-all : tie.Need-sub-all
-sub-all c = omega (arith, c .one-bit .ensures, pow-pos (2 * (c .before .before .args .shape .p - 1)))
+sub-all c = omega (arith, some _ _ (c .one-bit .ensures))
 
 one-bit-requires-2 : tie.Need-one-bit-requires-2
 one-bit-requires-2 c κs = omega (arith, high (c .before .before .args .shape) (c .before .before .pre .0))
 
 sub-rows : tie.Need-sub-rows
-sub-rows c = omega (arith, c .one-bit2 .ensures, pow-pos (c .before .before .before .args .shape .p - 1))
+sub-rows c = omega (arith, some _ _ (c .one-bit2 .ensures))
 
 one-bit-requires-3 : tie.Need-one-bit-requires-3
 one-bit-requires-3 c κs = omega (arith, evenodd-rows (c .before .before .before .args .shape) (c .before .before .before .pre .0) (c .before .before .before .pre .1), high (c .before .before .before .args .shape) (c .before .before .before .pre .0))
@@ -33,10 +37,10 @@ one-bit-requires-3 c κs = omega (arith, evenodd-rows (c .before .before .before
 returns : tie.Need-returns
 returns c =
     let s = c .before .before .before .before in
-    from-is (s .args .shape) (s .args .row) (s .args .shape .p - 1) (2 * (s .args .shape .p - 1)) _ _ _
+    from-is (s .args .shape) (s .args .row) (s .args .shape .p - 1) (s .args .shape .p - 1 + (s .args .shape .p - 1)) _ _ _
     (omega (arith, evenodd-rows (s .args .shape) (s .pre .0) (s .pre .1), evenodd-n (s .args .shape) (s .pre .0) (s .pre .1), s .pre .2))
     (omega (arith, evenodd-n (s .args .shape) (s .pre .0) (s .pre .1)))
-    (sym (evenodd-n (s .args .shape) (s .pre .0) (s .pre .1))) (c .one-bit3 .ensures) (c .before .before .one-bit .ensures) (c .before .one-bit2 .ensures)
+    (omega (arith, evenodd-n (s .args .shape) (s .pre .0) (s .pre .1))) (c .one-bit3 .ensures) (c .before .before .one-bit .ensures) (c .before .one-bit2 .ensures)
 
 pub with-diagonals-spec : {M : Type 1} → statement M
-with-diagonals-spec = tie.close (tie.spec sub-n mul-one-bit one-bit-requires sub-all one-bit-requires-2 sub-rows one-bit-requires-3 returns)
+with-diagonals-spec = tie.close (tie.spec sub-n add-one-bit one-bit-requires sub-all one-bit-requires-2 sub-rows one-bit-requires-3 returns)
