@@ -257,16 +257,16 @@ fn line_of(shape: Shape, q: usize) -> Line
     requires { ⌜ WellFormed shape × (q < equations shape) ⌝ }
     ensures { λ r. ⌜ Walks shape q r ⌝ }
 {
-    if shape.code == 3 {
-        return xcode::line(shape, q);
+    if shape.code == 2 {
+        return hcode::line(shape, q);
     }
     if shape.code == 1 {
         return rdp::line(shape, q);
     }
-    if shape.code == 4 {
-        return evenodd::line(shape, q);
+    if shape.code == 3 {
+        return xcode::line(shape, q);
     }
-    hcode::line(shape, q)
+    evenodd::line(shape, q)
 }
 
 // Where cell k of a line starts, given where the one before it does; all numbers but k and turn in bytes.

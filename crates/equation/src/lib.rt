@@ -16,7 +16,8 @@ use codes::Shape;
 
 // Puts n bytes of what several equations share into the first n of `shared`, which are zeros.
 pub fn put_shared(shape: Shape, stripe: &[u8], at: usize, n: usize, shared: &mut [u8])
-    requires { ⌜ Window shape (now stripe) at n × (shares shape ≡ true) × (n ≤ length (now shared)) × ((i : ℕ) → i < n → getD (now shared) i 0 ≡ 0) ⌝ }
+    requires { ⌜ Window shape (now stripe) at n × (shares shape ≡ true) × (n ≤ length (now shared))
+        × ((i : ℕ) → i < n → getD (now shared) i 0 ≡ 0) ⌝ }
     ensures { λ _. ⌜ Shares shape (now (stripe .entry)) at n (now (shared .exit)) × (length (now (shared .exit)) ≡ length (now (shared .entry))) ⌝ }
 {
     let mut places = [0usize; codes::PLACES];
