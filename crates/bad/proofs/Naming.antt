@@ -21,7 +21,7 @@ use Rattle.codes.specs.declared.Shape.{Shape}
 use Rattle.codes.specs.Shape.{rows, columns, cells, disks, equations, stripeLength, WellFormed}
 use Rattle.codes.specs.Geometry.{isThere, cellThere, columnOf, liesAt, cellOf}
 use Rattle.codes.specs.Encoded.{parityCell, sumsCell, byteAt, sumOver, total, Solves, Encoded}
-use Rattle.codes.specs.Refusals.{refusal, stripeFaults}
+use Rattle.refusals.specs.Refusals.{refusal, stripeFaults}
 use Rattle.codes.specs.Agree.{inColumns}
 use Rattle.codes.proofs.Geometry.{column-there, is-there, lies-column, byte-missing, byte-small}
 use Rattle.codes.proofs.Solutions.{total-zero, zero-total, solves-same}

@@ -7,7 +7,7 @@ use lib.ListN.{length}
 use Rattle.xor.proofs.Cases.{by-equal}
 use Rattle.codes.specs.declared.Shape.{Shape}
 use Rattle.codes.specs.Shape.{WellFormed}
-use Rattle.codes.proofs.Refused.{accepted}
+use Rattle.refusals.proofs.Refused.{accepted}
 use Rattle.bad.specs.declared.BadColumn.{BadColumn}
 use Rattle.bad.specs.declared.BadColumn.the-variants.{Clean, Column, Unexplained, Refused}
 use Rattle.bad.specs.Bad.{badNumber, Finding, Finds}

@@ -6,7 +6,7 @@ use lib.ListN.{length}
 use Rattle.codes.specs.declared.Shape.{Shape}
 use Rattle.codes.specs.Shape.{disks}
 use Rattle.codes.specs.Encoded.{Encoded}
-use Rattle.codes.specs.Refusals.{refusal, stripeFaults}
+use Rattle.refusals.specs.Refusals.{refusal, stripeFaults}
 use Rattle.bad.specs.declared.BadColumn.{BadColumn}
 use Rattle.bad.specs.declared.BadColumn.the-variants.{Clean, Column, Unexplained, Refused}
 use Rattle.codes.specs.Agree.{callersColumns}

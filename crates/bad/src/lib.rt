@@ -149,7 +149,7 @@ fn find(shape: Shape, stripe: &[u8], at: usize, n: usize) -> BadColumn
 pub fn bad_column(shape: Shape, stripe: &[u8]) -> BadColumn
     ensures { λ r. ⌜ Finds shape (now (stripe .entry)) r ⌝ }
 {
-    let number = codes::stripe_refusal(shape, stripe.len());
+    let number = refusals::stripe_refusal(shape, stripe.len());
     if number != 0 {
         return BadColumn::Refused(number);
     }

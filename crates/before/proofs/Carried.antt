@@ -13,8 +13,8 @@ use Rattle.codes.specs.Shape.{rows, columns, cells, equations, cellNumber}
 use Rattle.codes.specs.Equations.{equation}
 use Rattle.codes.specs.Encoded.{parityCell, sumsCell, sumOver, isParity, byteAt, Encoded}
 use Rattle.codes.specs.Agree.{Agree, callersColumns}
-use Rattle.codes.specs.Refusals.{Fault, refusal}
-use Rattle.codes.specs.Answer.{Answers}
+use Rattle.refusals.specs.Refusals.{Fault, refusal}
+use Rattle.refusals.specs.Answer.{Answers}
 use Rattle.stripe.specs.Encode.{EncodingOf, Encodes}
 use Rattle.stripe.specs.Broken.{Counts}
 use Rattle.stripe.specs.Write.{Difference, Written, Alone, Depending, Writes}

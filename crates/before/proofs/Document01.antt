@@ -18,7 +18,7 @@ use Rattle.codes.specs.Equations.{Code, rdp, hcode, xcode}
 use Rattle.codes.specs.Encoded.{parityCell, sumOver, isParity}
 use Rattle.codes.specs.Holders.{holds}
 use Rattle.codes.specs.Agree.{inColumns}
-use Rattle.codes.specs.Refusals.{Fault, firstOf, fault, sizeFaults, otherLength, outside}
+use Rattle.refusals.specs.Refusals.{Fault, firstOf, fault, sizeFaults, otherLength, outside}
 use Rattle.stripe.specs.Write.{Depending}
 use Rattle.bad.specs.declared.BadColumn.{BadColumn}
 use Rattle.bad.specs.declared.BadColumn.the-variants.{Clean, Column, Unexplained, Refused as BadRefused}

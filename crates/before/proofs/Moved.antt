@@ -17,7 +17,7 @@ use Rattle.codes.specs.Equations.{codeOf, equation}
 use Rattle.codes.specs.Geometry.{isThere, cellThere, columnOf, liesAt, cellOf, callersCell, place}
 use Rattle.codes.specs.Encoded.{parityCell, sumsCell, sumOver, isParity, byteAt, fails, brokenEquations}
 use Rattle.codes.specs.Agree.{inColumns, callersColumns}
-use Rattle.codes.specs.Refusals.{Fault, fault, order, applies, firstOf, refusal, sizeFaults, otherLength, outside, codeFaults, shapeFaults, stripeFaults, writeFaults, cellsFaults, columnsFaults}
+use Rattle.refusals.specs.Refusals.{Fault, fault, order, applies, firstOf, refusal, sizeFaults, otherLength, outside, codeFaults, shapeFaults, stripeFaults, writeFaults, cellsFaults, columnsFaults}
 use Rattle.codes.specs.Holders.{holds}
 use Rattle.codes.proofs.Geometry.{there-all, column-all, lies-all}
 use Rattle.decide.specs.Survivors.{named}

@@ -1,8 +1,6 @@
 -- The laws behind the shape of a stripe, its refusals, the walk through an equation's cells, the order of the equations, where cells lie,
 -- the equations that hold a cell, and the parity cells that depend on a data cell.
 pub mod Shapes
-pub mod Order
-pub mod Refused
 pub mod Residues
 pub mod Lines
 pub mod Ordered
@@ -21,4 +19,3 @@ pub mod Held
 pub mod Depends
 pub mod Sizes
 pub mod Solutions
-pub mod Answer

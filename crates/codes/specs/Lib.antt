@@ -2,9 +2,7 @@ pub mod Equations
 pub mod Shape
 pub mod Geometry
 pub mod Encoded
-pub mod Refusals
 pub mod Lines
 pub mod Depends
 pub mod Holders
 pub mod Agree
-pub mod Answer

@@ -6,8 +6,8 @@ use native.Mathlib.Omega.{arith}
 use lib.ListN.{length, drop, length-append}
 use Rattle.xor.proofs.Cases.{by-equal}
 use Rattle.codes.specs.declared.Shape.{Shape}
-use Rattle.codes.specs.Refusals.{refusal, cellsFaults}
-use Rattle.codes.proofs.Refused.{cells-accepted}
+use Rattle.refusals.specs.Refusals.{refusal, cellsFaults}
+use Rattle.refusals.proofs.Refused.{cells-accepted}
 use Rattle.decide.specs.Survivors.{Undetermined, Restores, named}
 use Rattle.rebuild.specs.Rebuild.{RebuildsCells}
 use Rattle.rebuild.proofs.Calls.{decided-long}

@@ -9,7 +9,7 @@ use lib.ListN.{length, take, drop, replicate, length-replicate}
 use lib.Seq.{length-take-le}
 use Rattle.xor.proofs.Cases.{by-equal}
 use Rattle.codes.specs.declared.Shape.{Shape}
-use Rattle.codes.specs.Refusals.{Fault, order, applies, firstOf, refusal, cellsFaults}
+use Rattle.refusals.specs.Refusals.{Fault, order, applies, firstOf, refusal, cellsFaults}
 use Rattle.decide.specs.Survivors.{named}
 use Rattle.rebuild.proofs.Deciding.{done}
 use Rattle.rebuild.specs.Rebuild.{RebuildsCells}

@@ -10,10 +10,10 @@ use lib.ListN.{length}
 use borrow.Author.Tests.{ne-eqb, le-ltb}
 use Rattle.codes.specs.declared.Shape.{Shape}
 use Rattle.codes.specs.Shape.{mostCell, rows, disks, existing, stripeLength, WellFormed}
-use Rattle.codes.specs.Refusals.{refusal, codeFaults, shapeFaults, cellsFaults}
+use Rattle.refusals.specs.Refusals.{refusal, codeFaults, shapeFaults, cellsFaults}
 use Rattle.codes.proofs.Shapes.{of-code, rows-low, few-columns, missing-low, disks-is, full-missing, length-of}
-use Rattle.codes.proofs.Order.{hit, miss, right}
-use Rattle.codes.proofs.Refused.{shape-after, shape-accepted, stripe-after, cells-after}
+use Rattle.refusals.proofs.Order.{hit, miss, right}
+use Rattle.refusals.proofs.Refused.{shape-after, shape-accepted, stripe-after, cells-after}
 use Rattle.format.specs.Format.{absentCell, absent, Job, cellSize, jobBytes, Fits, shapeOf, answerBytes}
 use Rattle.jobs.specs.Answer.{Answers, carried, noJob}
 use Rattle.jobs.proofs.OneAnswer.{carried-this}

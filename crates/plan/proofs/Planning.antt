@@ -6,7 +6,7 @@ use Rattle.bits.proofs.Bits.{same-bits}
 use Rattle.codes.specs.declared.Shape.{Shape}
 use Rattle.codes.specs.Shape.{rows}
 use Rattle.codes.specs.Geometry.{columnOf}
-use Rattle.codes.specs.Refusals.{refusal}
+use Rattle.refusals.specs.Refusals.{refusal}
 use Rattle.plan.specs.declared.ReadPlan.{ReadPlan}
 use Rattle.plan.specs.declared.PlanAnswer.{PlanAnswer}
 use Rattle.plan.specs.declared.PlanAnswer.the-variants.{Plan, Refused}

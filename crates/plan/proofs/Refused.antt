@@ -5,9 +5,9 @@ use Prim.Native.Nat.{ℕ, _<_}
 use borrow.Author.Tests.{eqb-true, leb-false, not-false}
 use Rattle.codes.specs.declared.Shape.{Shape}
 use Rattle.codes.specs.Shape.{disks, WellFormed}
-use Rattle.codes.specs.Refusals.{outside, order, refusal, codeFaults, sizeFaults}
-use Rattle.codes.proofs.Order.{After, after}
-use Rattle.codes.proofs.Refused.{well-formed}
+use Rattle.refusals.specs.Refusals.{outside, order, refusal, codeFaults, sizeFaults}
+use Rattle.refusals.proofs.Order.{After, after}
+use Rattle.refusals.proofs.Refused.{well-formed}
 use Rattle.plan.specs.Refusals.{notRdp, rdpFaults, planFaults}
 
 -- ---- a shape that must be RDP's

@@ -3,7 +3,7 @@ use mathlib.Core.Path.{_≡_}
 use Prim.Native.Nat.{ℕ}
 use Rattle.codes.specs.declared.Shape.{Shape}
 use Rattle.codes.specs.Geometry.{columnOf}
-use Rattle.codes.specs.Refusals.{refusal}
+use Rattle.refusals.specs.Refusals.{refusal}
 use Rattle.plan.specs.declared.ReadPlan.{ReadPlan}
 use Rattle.plan.specs.declared.PlanAnswer.{PlanAnswer}
 use Rattle.plan.specs.declared.PlanAnswer.the-variants.{Plan, Refused}

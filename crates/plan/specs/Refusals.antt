@@ -5,7 +5,7 @@ use Prim.Native.Nat.{ℕ}
 use lib.Dec.{eqb}
 use Rattle.codes.specs.declared.Shape.{Shape}
 use Rattle.codes.specs.Shape.{disks}
-use Rattle.codes.specs.Refusals.{Fault, fault, codeFaults, sizeFaults, outside}
+use Rattle.refusals.specs.Refusals.{Fault, fault, codeFaults, sizeFaults, outside}
 
 -- another code than RDP
 abbrev pub notRdp : Shape → Fault

@@ -2,7 +2,7 @@
 // Callers number columns as they lie in the stripe; the rule and the equations number them as published.
 ghost use mathlib.Core.Path.{_≡_};
 ghost use mathlib.Core.Bool.{true};
-ghost use Rattle.codes.specs.Refusals.{refusal};
+ghost use Rattle.refusals.specs.Refusals.{refusal};
 ghost use Rattle.plan.specs.Plan.{columnReads, cellsRead, ByRule, isAccepted};
 ghost use Rattle.plan.specs.Refusals.{rdpFaults, planFaults};
 ghost use Rattle.plan.specs.Right.{RdpColumn};
@@ -26,8 +26,8 @@ pub enum PlanAnswer {
 pub fn rdp_refusal(shape: Shape) -> usize
     ensures { λ r. ⌜ r ≡ refusal (rdpFaults shape) ⌝ }
 {
-    let wrong = codes::code_refusal(shape);
-    let size = codes::size_refusal(shape);
+    let wrong = refusals::code_refusal(shape);
+    let size = refusals::size_refusal(shape);
     let code = shape.code;
     if wrong != 0 {
         return wrong;

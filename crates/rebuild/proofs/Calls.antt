@@ -8,7 +8,7 @@ use lib.ListN.{length}
 use Rattle.xor.proofs.Cases.{by-equal}
 use Rattle.codes.specs.declared.Shape.{Shape}
 use Rattle.codes.specs.Shape.{cells, stripeLength}
-use Rattle.codes.specs.Refusals.{refusal, columnsFaults}
+use Rattle.refusals.specs.Refusals.{refusal, columnsFaults}
 use Rattle.codes.specs.Agree.{callersColumns}
 use Rattle.rebuild.specs.Rebuild.{Decides, Rebuilds, RebuildsColumns}
 use Rattle.rebuild.proofs.Deciding.{kept, zero-done, lost-same}

@@ -14,8 +14,8 @@ use Rattle.codes.specs.declared.Shape.{Shape}
 use Rattle.codes.specs.Shape.{mostCell, rows, columns, equations, cells, cellNumber, missing, stripeLength, WellFormed}
 use Rattle.codes.specs.Equations.{equation}
 use Rattle.codes.specs.Encoded.{parityCell, sumsCell, sumOver, Solves, byteAt, Encoded}
-use Rattle.codes.specs.Refusals.{refusal, cellsFaults, columnsFaults}
-use Rattle.codes.proofs.Refused.{cells-accepted, columns-accepted}
+use Rattle.refusals.specs.Refusals.{refusal, cellsFaults, columnsFaults}
+use Rattle.refusals.proofs.Refused.{cells-accepted, columns-accepted}
 use Rattle.codes.proofs.Parity.{same-bytes}
 use Rattle.codes.specs.Agree.{Agree, callersColumns}
 use Rattle.decide.specs.Survivors.{Undetermined, Restores, named}

@@ -6,8 +6,8 @@ use Prim.Native.Nat.{ℕ}
 use lib.ListN.{length}
 use Rattle.xor.proofs.Cases.{by-equal}
 use Rattle.codes.specs.declared.Shape.{Shape}
-use Rattle.codes.specs.Refusals.{refusal, cellsFaults, columnsFaults}
-use Rattle.codes.proofs.Refused.{cells-accepted, columns-accepted}
+use Rattle.refusals.specs.Refusals.{refusal, cellsFaults, columnsFaults}
+use Rattle.refusals.proofs.Refused.{cells-accepted, columns-accepted}
 use Rattle.codes.specs.Agree.{Agree, callersColumns}
 use Rattle.decide.specs.Survivors.{named}
 use Rattle.rebuild.specs.Rebuild.{Decides, Rebuilds, RebuildsCells, RebuildsColumns}

@@ -8,8 +8,8 @@ use native.Mathlib.Omega.{arith}
 use lib.ListN.{length}
 use Rattle.xor.proofs.Cases.{by-test, by-equal, clash}
 use Rattle.codes.specs.declared.Shape.{Shape}
-use Rattle.codes.specs.Refusals.{Fault, order, applies, firstOf, refusal, shapeFaults, stripeFaults, columnsFaults}
-use Rattle.codes.proofs.Refused.{columns-accepted}
+use Rattle.refusals.specs.Refusals.{Fault, order, applies, firstOf, refusal, shapeFaults, stripeFaults, columnsFaults}
+use Rattle.refusals.proofs.Refused.{columns-accepted}
 use Rattle.codes.specs.Agree.{callersColumns}
 use Rattle.decide.specs.Survivors.{Restores}
 use Rattle.rebuild.specs.Rebuild.{Rebuilds, RebuildsColumns}

@@ -9,8 +9,8 @@ use Rattle.xor.proofs.Cases.{by-equal}
 use Rattle.codes.specs.declared.Shape.{Shape}
 use Rattle.codes.specs.Shape.{WellFormed}
 use Rattle.codes.specs.Encoded.{byteAt}
-use Rattle.codes.specs.Refusals.{refusal, cellsFaults, columnsFaults}
-use Rattle.codes.proofs.Refused.{cells-accepted, columns-accepted}
+use Rattle.refusals.specs.Refusals.{refusal, cellsFaults, columnsFaults}
+use Rattle.refusals.proofs.Refused.{cells-accepted, columns-accepted}
 use Rattle.codes.proofs.Parity.{same-bytes}
 use Rattle.codes.specs.Agree.{Agree, callersColumns}
 use Rattle.decide.specs.Survivors.{Undetermined, Restores, named}

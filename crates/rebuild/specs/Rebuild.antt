@@ -6,7 +6,7 @@ use mathlib.Core.Bool.{Bool}
 use Prim.Native.Nat.{ℕ}
 use lib.ListN.{length}
 use Rattle.codes.specs.declared.Shape.{Shape}
-use Rattle.codes.specs.Refusals.{refusal, cellsFaults, columnsFaults}
+use Rattle.refusals.specs.Refusals.{refusal, cellsFaults, columnsFaults}
 use Rattle.codes.specs.Agree.{callersColumns}
 use Rattle.decide.specs.Survivors.{named, Undetermined, Restores}
 

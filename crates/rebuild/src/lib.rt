@@ -44,7 +44,7 @@ fn rebuild_lost(shape: Shape, stripe: &mut [u8], map: [bool; decide::MAP]) -> us
 pub fn cells(shape: Shape, stripe: &mut [u8], lost: &[usize]) -> usize
     ensures { λ r. ⌜ RebuildsCells shape (now (lost .entry)) (now (stripe .entry)) r (now (stripe .exit)) ⌝ }
 {
-    let refusal = codes::cells_refusal(shape, stripe.len(), lost);
+    let refusal = refusals::cells_refusal(shape, stripe.len(), lost);
     if refusal != 0 {
         return refusal;
     }
@@ -57,7 +57,7 @@ pub fn cells(shape: Shape, stripe: &mut [u8], lost: &[usize]) -> usize
 pub fn columns(shape: Shape, stripe: &mut [u8], a: usize, b: usize) -> usize
     ensures { λ r. ⌜ RebuildsColumns shape a b (now (stripe .entry)) r (now (stripe .exit)) ⌝ }
 {
-    let refusal = codes::columns_refusal(shape, stripe.len(), a, b);
+    let refusal = refusals::columns_refusal(shape, stripe.len(), a, b);
     if refusal != 0 {
         return refusal;
     }

@@ -8,8 +8,8 @@ use borrow.Author.Tests.{eq-eqb, leb-false}
 use Rattle.codes.specs.declared.Shape.{Shape}
 use Rattle.codes.specs.Shape.{rows, disks}
 use Rattle.codes.specs.Geometry.{columnOf}
-use Rattle.codes.specs.Refusals.{fault, outside, order, refusal}
-use Rattle.codes.proofs.Order.{After, after}
+use Rattle.refusals.specs.Refusals.{fault, outside, order, refusal}
+use Rattle.refusals.proofs.Order.{After, after}
 use Rattle.spare.specs.Refusals.{spareFaults}
 use Rattle.spare.specs.Right.{SpareRight}
 use Rattle.spare.proofs.Refused.{buffers-right}

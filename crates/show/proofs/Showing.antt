@@ -9,7 +9,7 @@ use Rattle.xor.proofs.Cases.{by-equal}
 use Rattle.codes.specs.declared.Shape.{Shape}
 use Rattle.codes.specs.Shape.{rows, cellNumber, WellFormed}
 use Rattle.codes.specs.Geometry.{cellThere, columnOf, place}
-use Rattle.codes.specs.Refusals.{refusal}
+use Rattle.refusals.specs.Refusals.{refusal}
 use Rattle.codes.proofs.Geometry.{column-there, is-there, cell-there-at, place-inside}
 use Rattle.codes.proofs.Positions.{cell-inside}
 use Rattle.codes.proofs.Shapes.{mostBytes, length-high}

@@ -5,7 +5,7 @@ use Prim.Native.Nat.{ℕ}
 use lib.Dec.{eqb, leb}
 use Rattle.codes.specs.declared.Shape.{Shape}
 use Rattle.codes.specs.Shape.{rows, disks}
-use Rattle.codes.specs.Refusals.{Fault, fault, outside}
+use Rattle.refusals.specs.Refusals.{Fault, fault, outside}
 use Rattle.spare.specs.Refusals.{spareFaults}
 
 -- the refusals of a show of a row and a column while the one at place k is being rebuilt; rows done p-1 is inside

@@ -8,7 +8,7 @@ use denote.Ref.{RefT}
 use Rattle.codes.specs.declared.Shape.{Shape}
 use Rattle.codes.specs.Shape.{cellNumber}
 use Rattle.codes.specs.Geometry.{columnOf, place}
-use Rattle.codes.specs.Refusals.{refusal}
+use Rattle.refusals.specs.Refusals.{refusal}
 use Rattle.show.specs.declared.ShownAt.{ShownAt}
 use Rattle.show.specs.declared.ShownAt.the-variants.{Stripe, Spare, Refused}
 use Rattle.show.specs.Refusals.{showFaults}

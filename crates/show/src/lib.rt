@@ -1,7 +1,7 @@
 // A look at a cell of an RDP stripe while one column is being rebuilt into a spare. It takes any numbers and any bytes: what can't be done is refused
 // by its number. Callers number columns as they lie in the stripe.
 ghost use mathlib.Core.Path.{_≡_};
-ghost use Rattle.codes.specs.Refusals.{refusal};
+ghost use Rattle.refusals.specs.Refusals.{refusal};
 ghost use Rattle.show.specs.Refusals.{showFaults};
 ghost use Rattle.show.specs.Show.{reason, Shown, Shows};
 use codes::Shape;

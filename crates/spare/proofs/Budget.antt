@@ -8,7 +8,7 @@ use Rattle.codes.specs.declared.Shape.{Shape}
 use Rattle.codes.specs.declared.Counted.the-variants.{Count, Refused}
 use Rattle.codes.specs.Shape.{rows, WellFormed}
 use Rattle.codes.specs.Geometry.{columnOf}
-use Rattle.codes.specs.Refusals.{refusal}
+use Rattle.refusals.specs.Refusals.{refusal}
 use Rattle.codes.proofs.Lines.{rdp-rows}
 use Rattle.spare.specs.Refusals.{runFaults}
 use Rattle.spare.specs.Run.{rowsRun, RowsRebuilt, RunsByPlan}

@@ -7,8 +7,8 @@ use borrow.Author.Tests.{eqb-true, leb-false, not-false}
 use Rattle.codes.specs.declared.Shape.{Shape}
 use Rattle.codes.specs.Shape.{rows, disks, stripeLength, WellFormed}
 use Rattle.codes.specs.Geometry.{columnOf}
-use Rattle.codes.specs.Refusals.{fault, otherLength, outside, order, refusal}
-use Rattle.codes.proofs.Order.{After, after}
+use Rattle.refusals.specs.Refusals.{fault, otherLength, outside, order, refusal}
+use Rattle.refusals.proofs.Order.{After, after}
 use Rattle.plan.specs.Plan.{isAccepted}
 use Rattle.plan.specs.Refusals.{rdpFaults}
 use Rattle.plan.proofs.Column.{lying}

@@ -19,8 +19,8 @@ use Rattle.codes.specs.Geometry.{cellThere, columnOf}
 use Rattle.codes.specs.Agree.{Agree}
 use Rattle.codes.specs.Encoded.{byteAt}
 use Rattle.codes.specs.Holders.{holds}
-use Rattle.codes.specs.Refusals.{refusal}
-use Rattle.codes.proofs.Answer.{one-answer}
+use Rattle.refusals.specs.Refusals.{refusal}
+use Rattle.refusals.proofs.Answer.{one-answer}
 use Rattle.plan.specs.Plan.{chosen, readsCell}
 use Rattle.spare.specs.Refusals.{runFaults}
 use Rattle.spare.specs.Run.{rowsRun, rebuiltByte, others, spareByte, RowsRebuilt, RunsByPlan}

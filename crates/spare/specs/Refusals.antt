@@ -5,7 +5,7 @@ use Prim.Native.Nat.{ℕ, _*_}
 use Rattle.codes.specs.declared.Shape.{Shape}
 use Rattle.codes.specs.Shape.{rows, disks, stripeLength}
 use Rattle.codes.specs.Geometry.{columnOf}
-use Rattle.codes.specs.Refusals.{Fault, fault, otherLength, outside}
+use Rattle.refusals.specs.Refusals.{Fault, fault, otherLength, outside}
 use Rattle.plan.specs.Plan.{isAccepted}
 use Rattle.plan.specs.Refusals.{rdpFaults}
 

@@ -13,7 +13,7 @@ use Rattle.codes.specs.Shape.{rows, cells, cellNumber}
 use Rattle.codes.specs.Geometry.{columnOf}
 use Rattle.codes.specs.Encoded.{byteAt}
 use Rattle.codes.specs.Holders.{holds}
-use Rattle.codes.specs.Answer.{Answers}
+use Rattle.refusals.specs.Answer.{Answers}
 use Rattle.plan.specs.Plan.{chosen}
 use Rattle.spare.specs.Refusals.{runFaults}
 

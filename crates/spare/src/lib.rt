@@ -7,7 +7,7 @@ ghost use lib.ListN.{length};
 ghost use lib.Dec.{eqb};
 ghost use Rattle.codes.specs.Shape.{rows, missing, WellFormed};
 ghost use Rattle.codes.specs.Geometry.{gap};
-ghost use Rattle.codes.specs.Refusals.{refusal};
+ghost use Rattle.refusals.specs.Refusals.{refusal};
 ghost use Rattle.plan.specs.Right.{RdpColumn};
 ghost use Rattle.spare.specs.Refusals.{spareFaults, runFaults};
 ghost use Rattle.spare.specs.Right.{RunRight};

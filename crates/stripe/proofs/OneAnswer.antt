@@ -8,9 +8,9 @@ use Rattle.codes.specs.declared.Shape.{Shape}
 use Rattle.codes.specs.declared.Counted.{Counted}
 use Rattle.codes.specs.Encoded.{brokenEquations}
 use Rattle.codes.specs.Geometry.{cellAt}
-use Rattle.codes.specs.Refusals.{stripeFaults, writeFaults}
-use Rattle.codes.proofs.Refused.{accepted, write-accepted}
-use Rattle.codes.proofs.Answer.{one-answer}
+use Rattle.refusals.specs.Refusals.{stripeFaults, writeFaults}
+use Rattle.refusals.proofs.Refused.{accepted, write-accepted}
+use Rattle.refusals.proofs.Answer.{one-answer}
 use Rattle.stripe.specs.Encode.{Encodes}
 use Rattle.stripe.specs.Broken.{Counts}
 use Rattle.stripe.specs.Write.{Written, Depending, Writes}

@@ -6,8 +6,8 @@ use lib.ListN.{length}
 use Rattle.codes.specs.declared.Shape.{Shape}
 use Rattle.codes.specs.declared.Counted.{Counted}
 use Rattle.codes.specs.Encoded.{brokenEquations}
-use Rattle.codes.specs.Refusals.{stripeFaults}
-use Rattle.codes.specs.Answer.{Answers}
+use Rattle.refusals.specs.Refusals.{stripeFaults}
+use Rattle.refusals.specs.Answer.{Answers}
 
 -- broken answers how many equations fail in at least one byte, or the refusal
 abbrev pub Counts : Shape → List ℕ → Counted → Type 0

@@ -7,7 +7,7 @@ use lib.ListN.{length}
 use Rattle.codes.specs.declared.Shape.{Shape}
 use Rattle.codes.specs.Encoded.{isParity, Encoded}
 use Rattle.codes.specs.Agree.{Agree}
-use Rattle.codes.specs.Refusals.{refusal, stripeFaults}
+use Rattle.refusals.specs.Refusals.{refusal, stripeFaults}
 
 -- new is the encoded stripe with the data cells of old
 pub record EncodingOf (s : Shape) (old new : List ℕ) : Type 0 where

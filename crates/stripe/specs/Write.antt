@@ -13,8 +13,8 @@ use Rattle.codes.specs.declared.Counted.{Counted}
 use Rattle.codes.specs.Shape.{cells, equations, stripeLength}
 use Rattle.codes.specs.Geometry.{cellAt}
 use Rattle.codes.specs.Encoded.{byteAt, parityCell, sumOver, isParity, Encoded}
-use Rattle.codes.specs.Refusals.{writeFaults}
-use Rattle.codes.specs.Answer.{Answers}
+use Rattle.refusals.specs.Refusals.{writeFaults}
+use Rattle.refusals.specs.Answer.{Answers}
 
 -- d is the difference of the old bytes of cell c and the new ones, put alone into a stripe of zero data, and encoded
 pub record Difference (s : Shape) (c : ℕ) (old bytes d : List ℕ) : Type 0 where

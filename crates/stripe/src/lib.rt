@@ -51,7 +51,7 @@ fn set_parities(shape: Shape, stripe: &mut [u8])
 pub fn encode(shape: Shape, stripe: &mut [u8]) -> usize
     ensures { λ r. ⌜ Encodes shape (now (stripe .entry)) r (now (stripe .exit)) ⌝ }
 {
-    let refusal = codes::stripe_refusal(shape, stripe.len());
+    let refusal = refusals::stripe_refusal(shape, stripe.len());
     if refusal != 0 {
         return refusal;
     }
@@ -100,7 +100,7 @@ fn count_broken(shape: Shape, stripe: &[u8]) -> usize
 pub fn broken(shape: Shape, stripe: &[u8]) -> Counted
     ensures { λ r. ⌜ Counts shape (now (stripe .entry)) r ⌝ }
 {
-    let refused = codes::stripe_refusal(shape, stripe.len());
+    let refused = refusals::stripe_refusal(shape, stripe.len());
     if refused != 0 {
         return Counted::Refused(refused);
     }
@@ -154,7 +154,7 @@ fn write_cell(
 pub fn write(shape: Shape, stripe: &mut [u8], row: usize, column: usize, new: &[u8]) -> Counted
     ensures { λ r. ⌜ Writes shape row column (now (new .entry)) (now (stripe .entry)) (now (stripe .exit)) r ⌝ }
 {
-    let number = codes::write_refusal(shape, stripe.len(), row, column, new.len());
+    let number = refusals::write_refusal(shape, stripe.len(), row, column, new.len());
     if number != 0 {
         return Counted::Refused(number);
     }

@@ -22,11 +22,11 @@ use Rattle.codes.specs.Shape.{lastCode, listed, rows, columns, missing, disks, 
 use Rattle.codes.specs.Geometry.{isThere, cellThere, columnOf, liesAt, cellAt, cellOf, callersCell, place}
 use Rattle.codes.specs.Equations.{equation}
 use Rattle.codes.specs.Encoded.{parityCell, sumsCell, byteAt, sumOver, parityByte, isParity, Encoded, fails, brokenEquations}
-use Rattle.codes.specs.Refusals.{order, applies, firstOf, refusal, shapeFaults, stripeFaults, writeFaults, cellsFaults}
+use Rattle.refusals.specs.Refusals.{order, applies, firstOf, refusal, shapeFaults, stripeFaults, writeFaults, cellsFaults}
 use Rattle.codes.specs.Holders.{holds}
 use Rattle.codes.specs.Depends.{WriteRight}
 use Rattle.codes.proofs.Shapes.{each-code}
-use Rattle.codes.proofs.Refused.{accepted, write-accepted}
+use Rattle.refusals.proofs.Refused.{accepted, write-accepted}
 use Rattle.codes.proofs.Positions.{cell-inside}
 use Rattle.codes.proofs.Geometry.{column-there, cell-there-at}
 use Rattle.decide.proofs.Marks.{named-there, columns-there}

@@ -1,7 +1,7 @@
 -- `bad::bad_column` meets its contract. A stripe that is not refused is well formed and of the right length, and the whole of its cells is looked at.
 use mathlib.Core.Path.{sym, _∙_}
 use native.Mathlib.Omega.{arith}
-use Rattle.codes.proofs.Refused.{accepted}
+use Rattle.refusals.proofs.Refused.{accepted}
 use Rattle.equation.proofs.Windows.{whole}
 use Rattle.bad.proofs.Naming.{finding-whole, finding-so}
 use borrow.Author.Needs.{needs}

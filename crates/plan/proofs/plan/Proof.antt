@@ -2,7 +2,7 @@
 use mathlib.Core.Path.{_≡_, sym, _∙_, subst}
 use Prim.Native.Nat.{_<_}
 use Rattle.codes.specs.Shape.{disks, WellFormed}
-use Rattle.codes.specs.Refusals.{refusal}
+use Rattle.refusals.specs.Refusals.{refusal}
 use Rattle.plan.specs.Refusals.{planFaults}
 use Rattle.plan.specs.Right.{RdpColumn}
 use Rattle.plan.proofs.Refused.{plan-accepted}

@@ -1,7 +1,7 @@
 -- `plan::plan_refusal` meets its contract. What is wrong with the shape comes first, then the column.
 use mathlib.Core.Path.{_≡_, sym, _∙_}
-use Rattle.codes.specs.Refusals.{refusal}
-use Rattle.codes.proofs.Order.{hit, miss, right, beyond, inside}
+use Rattle.refusals.specs.Refusals.{refusal}
+use Rattle.refusals.proofs.Order.{hit, miss, right, beyond, inside}
 use Rattle.plan.specs.Refusals.{rdpFaults}
 use Rattle.plan.proofs.Refused.{rdp-accepted, plan-after}
 use borrow.Author.Needs.{needs}

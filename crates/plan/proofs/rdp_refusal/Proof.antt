@@ -2,9 +2,9 @@
 use mathlib.Core.Path.{_≡_, sym, ap, _∙_}
 use mathlib.Core.Bool.{not}
 use borrow.Author.Tests.{eq-eqb, ne-eqb}
-use Rattle.codes.specs.Refusals.{refusal, codeFaults}
-use Rattle.codes.proofs.Order.{hit, miss}
-use Rattle.codes.proofs.Refused.{size-gives}
+use Rattle.refusals.specs.Refusals.{refusal, codeFaults}
+use Rattle.refusals.proofs.Order.{hit, miss}
+use Rattle.refusals.proofs.Refused.{size-gives}
 use Rattle.plan.proofs.Refused.{rdp-after}
 use borrow.Author.Needs.{needs}
 use Rattle.plan.proofs.rdp_refusal.Statement.{statement}

@@ -1,6 +1,6 @@
 -- `rebuild::cells` meets its contract. What is wrong with the numbers comes first.
 use mathlib.Core.Path.{sym, _∙_}
-use Rattle.codes.proofs.Refused.{cells-accepted}
+use Rattle.refusals.proofs.Refused.{cells-accepted}
 use Rattle.rebuild.proofs.Calls.{rebuilds-refused, rebuilds-decided, decided-long}
 use Rattle.decide.proofs.Marks.{named-there}
 use borrow.Author.Needs.{needs}

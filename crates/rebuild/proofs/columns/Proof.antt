@@ -3,7 +3,7 @@ use mathlib.Core.Path.{sym, ap₂, _∙_, subst}
 use Prim.Native.Nat.{ℕ, _<_}
 use Rattle.codes.specs.Shape.{columns}
 use Rattle.codes.specs.Agree.{inColumns}
-use Rattle.codes.proofs.Refused.{columns-accepted}
+use Rattle.refusals.proofs.Refused.{columns-accepted}
 use Rattle.codes.proofs.Geometry.{column-there}
 use Rattle.decide.proofs.Marks.{columns-there}
 use Rattle.rebuild.proofs.Calls.{rebuilds-refused, rebuilds-decided, rebuilds-columns, decided-long}

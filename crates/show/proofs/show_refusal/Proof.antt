@@ -7,8 +7,8 @@ use lib.Dec.{eqb, leb}
 use borrow.Author.Tests.{eq-eqb, ne-eqb, le-leb, lt-leb}
 use Rattle.xor.proofs.Cases.{and-both}
 use Rattle.codes.specs.Shape.{disks, WellFormed}
-use Rattle.codes.specs.Refusals.{fault, outside, refusal}
-use Rattle.codes.proofs.Order.{Gives, hit, miss, right, beyond, inside}
+use Rattle.refusals.specs.Refusals.{fault, outside, refusal}
+use Rattle.refusals.proofs.Order.{Gives, hit, miss, right, beyond, inside}
 use Rattle.spare.specs.Refusals.{spareFaults}
 use Rattle.show.specs.Refusals.{showFaults}
 use Rattle.spare.proofs.Refused.{spare-accepted}

@@ -3,7 +3,7 @@ use mathlib.Core.Path.{_≡_, sym, ap, _∙_}
 use native.Mathlib.Omega.{arith}
 use Rattle.codes.proofs.Geometry.{column-there, is-there}
 use Rattle.codes.specs.Geometry.{isThere}
-use Rattle.codes.specs.Refusals.{refusal}
+use Rattle.refusals.specs.Refusals.{refusal}
 use Rattle.show.specs.Refusals.{showFaults}
 use Rattle.show.proofs.Refused.{ShowRight, show-accepted}
 use Rattle.spare.proofs.Column.{row-small}

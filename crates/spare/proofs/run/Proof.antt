@@ -6,7 +6,7 @@ use native.Mathlib.Omega.{arith}
 use lib.ListN.{length}
 use borrow.Author.Needs.{needs}
 use Rattle.codes.specs.Geometry.{columnOf}
-use Rattle.codes.specs.Refusals.{refusal}
+use Rattle.refusals.specs.Refusals.{refusal}
 use Rattle.spare.specs.Refusals.{runFaults}
 use Rattle.spare.specs.Right.{RunRight}
 use Rattle.spare.proofs.Refused.{run-asked, run-accepted}

@@ -7,8 +7,8 @@ use native.Mathlib.Omega.{arith}
 use borrow.Author.Tests.{le-leb, lt-leb}
 use Rattle.codes.specs.Shape.{disks, WellFormed}
 use Rattle.codes.specs.Geometry.{columnOf}
-use Rattle.codes.specs.Refusals.{fault, outside, refusal}
-use Rattle.codes.proofs.Order.{Gives, hit, miss, right, beyond, inside}
+use Rattle.refusals.specs.Refusals.{fault, outside, refusal}
+use Rattle.refusals.proofs.Order.{Gives, hit, miss, right, beyond, inside}
 use Rattle.plan.specs.Plan.{isAccepted}
 use Rattle.plan.specs.Right.{RdpColumn}
 use Rattle.plan.proofs.Column.{lying}

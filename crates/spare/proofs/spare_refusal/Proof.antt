@@ -5,8 +5,8 @@ use Prim.Native.Nat.{ℕ, _*_}
 use native.Mathlib.Omega.{arith}
 use borrow.Author.Tests.{eq-eqb, ne-eqb}
 use Rattle.codes.specs.Shape.{stripeLength, WellFormed}
-use Rattle.codes.specs.Refusals.{refusal}
-use Rattle.codes.proofs.Order.{hit, miss, right}
+use Rattle.refusals.specs.Refusals.{refusal}
+use Rattle.refusals.proofs.Order.{hit, miss, right}
 use Rattle.plan.specs.Refusals.{rdpFaults}
 use Rattle.spare.proofs.Column.{spare-length}
 use Rattle.plan.proofs.Refused.{rdp-accepted}

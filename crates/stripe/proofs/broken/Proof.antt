@@ -1,6 +1,6 @@
 -- `stripe::broken` meets its contract. A stripe that is not refused is well formed and of the right length.
 use mathlib.Core.Path.{refl, sym, _∙_}
-use Rattle.codes.proofs.Refused.{accepted}
+use Rattle.refusals.proofs.Refused.{accepted}
 use borrow.Author.Needs.{needs}
 use Rattle.stripe.proofs.broken.Statement.{statement}
 use Rattle.stripe.proofs.broken.Tie as tie

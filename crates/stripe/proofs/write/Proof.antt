@@ -7,7 +7,7 @@ use Rattle.codes.specs.declared.Shape.{Shape}
 use Rattle.codes.specs.Shape.{cellNumber}
 use Rattle.codes.specs.Geometry.{columnOf, cellAt, place}
 use Rattle.codes.specs.Depends.{WriteRight}
-use Rattle.codes.proofs.Refused.{write-accepted}
+use Rattle.refusals.proofs.Refused.{write-accepted}
 use Rattle.stripe.specs.Write.{Written, Depending}
 use borrow.Author.Needs.{needs}
 use Rattle.stripe.proofs.write.Statement.{statement}

@@ -1,11 +1,11 @@
--- `codes::columns_refusal` meets its contract. Each return gives the first refusal in order, by the tests before it.
+-- `refusals::columns_refusal` meets its contract. Each return gives the first refusal in order, by the tests before it.
 use mathlib.Core.Path.{_≡_, sym, _∙_}
-use Rattle.codes.specs.Refusals.{refusal, stripeFaults}
-use Rattle.codes.proofs.Order.{hit, miss, right, beyond, inside}
-use Rattle.codes.proofs.Refused.{accepted, columns-after}
+use Rattle.refusals.specs.Refusals.{refusal, stripeFaults}
+use Rattle.refusals.proofs.Order.{hit, miss, right, beyond, inside}
+use Rattle.refusals.proofs.Refused.{accepted, columns-after}
 use borrow.Author.Needs.{needs}
-use Rattle.codes.proofs.columns_refusal.Statement.{statement}
-use Rattle.codes.proofs.columns_refusal.Tie as tie
+use Rattle.refusals.proofs.columns_refusal.Statement.{statement}
+use Rattle.refusals.proofs.columns_refusal.Tie as tie
 
 stripe-refusal-requires : tie.Need-stripe-refusal-requires
 stripe-refusal-requires c κs = search needs

@@ -1,9 +1,9 @@
--- `codes::size_refusal` meets its contract. Each return gives the first refusal in order, by the tests before it.
+-- `refusals::size_refusal` meets its contract. Each return gives the first refusal in order, by the tests before it.
 use borrow.Author.Tests.{eq-eqb, ne-eqb, lt-ltb, le-ltb}
-use Rattle.codes.proofs.Order.{hit, miss, right}
-use Rattle.codes.proofs.Refused.{size-given}
-use Rattle.codes.proofs.size_refusal.Statement.{statement}
-use Rattle.codes.proofs.size_refusal.Tie as tie
+use Rattle.refusals.proofs.Order.{hit, miss, right}
+use Rattle.refusals.proofs.Refused.{size-given}
+use Rattle.refusals.proofs.size_refusal.Statement.{statement}
+use Rattle.refusals.proofs.size_refusal.Tie as tie
 
 returns : tie.Need-returns
 returns c = size-given (c .before .before .args .shape) (hit (eq-eqb _ 0 (c .if1 .taken)))

@@ -1,12 +1,12 @@
--- `codes::code_refusal` meets its contract. Each return gives the first refusal in order, by the tests before it.
+-- `refusals::code_refusal` meets its contract. Each return gives the first refusal in order, by the tests before it.
 use mathlib.Core.Path.{sym, ap, _∙_}
 use mathlib.Core.Bool.{not}
 use borrow.Author.Tests.{eq-eqb, ne-eqb, lt-ltb, le-ltb}
-use Rattle.codes.proofs.Order.{hit, miss, right}
-use Rattle.codes.proofs.Refused.{code-given}
+use Rattle.refusals.proofs.Order.{hit, miss, right}
+use Rattle.refusals.proofs.Refused.{code-given}
 use borrow.Author.Needs.{needs}
-use Rattle.codes.proofs.code_refusal.Statement.{statement}
-use Rattle.codes.proofs.code_refusal.Tie as tie
+use Rattle.refusals.proofs.code_refusal.Statement.{statement}
+use Rattle.refusals.proofs.code_refusal.Tie as tie
 
 returns : tie.Need-returns
 returns c = code-given (c .before .before .args .shape) (hit (eq-eqb _ 0 (c .if1 .taken)))

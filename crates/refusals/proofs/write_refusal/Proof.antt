@@ -1,4 +1,4 @@
--- `codes::write_refusal` meets its contract. Each return gives the first refusal in order, by the tests before it.
+-- `refusals::write_refusal` meets its contract. Each return gives the first refusal in order, by the tests before it.
 use mathlib.Core.Path.{_≡_, sym, ap, _∙_}
 use mathlib.Core.List.{[], _∷_}
 use mathlib.Core.Bool.{not}
@@ -6,15 +6,15 @@ use Prim.Native.Nat.{ℕ}
 use native.Mathlib.Omega.{arith}
 use lib.Dec.{eqb}
 use borrow.Author.Tests.{eq-eqb, ne-eqb}
 use Rattle.codes.specs.Shape.{WellFormed}
 use Rattle.codes.specs.Geometry.{cellAt}
 use Rattle.codes.specs.Encoded.{isParity}
-use Rattle.codes.specs.Refusals.{fault, refusal, stripeFaults, writeFaults}
-use Rattle.codes.proofs.Order.{Gives, hit, miss, right, beyond, inside}
-use Rattle.codes.proofs.Refused.{accepted, write-after}
+use Rattle.refusals.specs.Refusals.{fault, refusal, stripeFaults, writeFaults}
+use Rattle.refusals.proofs.Order.{Gives, hit, miss, right, beyond, inside}
+use Rattle.refusals.proofs.Refused.{accepted, write-after}
 use borrow.Author.Needs.{needs}
-use Rattle.codes.proofs.write_refusal.Statement.{statement}
-use Rattle.codes.proofs.write_refusal.Tie as tie
+use Rattle.refusals.proofs.write_refusal.Statement.{statement}
+use Rattle.refusals.proofs.write_refusal.Tie as tie
 
 stripe-refusal-requires : tie.Need-stripe-refusal-requires
 stripe-refusal-requires c κs = search needs

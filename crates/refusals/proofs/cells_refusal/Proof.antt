@@ -1,13 +1,13 @@
--- `codes::cells_refusal` meets its contract. Each return gives the first refusal in order, by the tests before it.
+-- `refusals::cells_refusal` meets its contract. Each return gives the first refusal in order, by the tests before it.
 use mathlib.Core.Path.{_≡_, sym, _∙_}
 use native.Mathlib.Omega.{arith}
 use borrow.Author.Tests.{not-true, not-false}
-use Rattle.codes.specs.Refusals.{refusal, stripeFaults}
-use Rattle.codes.proofs.Order.{hit, miss, right}
-use Rattle.codes.proofs.Refused.{accepted, cells-after, some-out, none-out}
+use Rattle.refusals.specs.Refusals.{refusal, stripeFaults}
+use Rattle.refusals.proofs.Order.{hit, miss, right}
+use Rattle.refusals.proofs.Refused.{accepted, cells-after, some-out, none-out}
 use borrow.Author.Needs.{needs}
-use Rattle.codes.proofs.cells_refusal.Statement.{statement}
-use Rattle.codes.proofs.cells_refusal.Tie as tie
+use Rattle.refusals.proofs.cells_refusal.Statement.{statement}
+use Rattle.refusals.proofs.cells_refusal.Tie as tie
 
 stripe-refusal-requires : tie.Need-stripe-refusal-requires
 stripe-refusal-requires c κs = search needs

@@ -1,4 +1,4 @@
--- `codes::all_below` meets its contract. The loop's invariant: the first k numbers are below n.
+-- `refusals::all_below` meets its contract. The loop's invariant: the first k numbers are below n.
 use mathlib.Core.Path.{refl}
 use Prim.Native.Nat.{ℕ, _-_, _≤_, _<_}
 use native.Mathlib.Omega.{arith}
@@ -6,8 +6,8 @@ use lib.ListN.{length, getD}
 use borrow.Author.Count.{below-none, below-more}
 use Rattle.xor.proofs.Cases.{clash}
 use borrow.Author.Needs.{needs}
-use Rattle.codes.proofs.all_below.Statement.{statement}
-use Rattle.codes.proofs.all_below.Tie as tie
+use Rattle.refusals.proofs.all_below.Statement.{statement}
+use Rattle.refusals.proofs.all_below.Tie as tie
 
 abbrev Inv-loop : tie.InvT-loop
 Inv-loop numbers n k₀ k = (k ≤ length numbers) × ((i : ℕ) → i < k → getD numbers i 0 < n)

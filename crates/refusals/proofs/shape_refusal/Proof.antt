@@ -1,9 +1,9 @@
--- `codes::shape_refusal` meets its contract. What is wrong with the code or the prime comes first, then the cell size.
+-- `refusals::shape_refusal` meets its contract. What is wrong with the code or the prime comes first, then the cell size.
 use mathlib.Core.Path.{sym, _∙_}
-use Rattle.codes.proofs.Refused.{shape-after, size-gives}
+use Rattle.refusals.proofs.Refused.{shape-after, size-gives}
 use borrow.Author.Needs.{needs}
-use Rattle.codes.proofs.shape_refusal.Statement.{statement}
-use Rattle.codes.proofs.shape_refusal.Tie as tie
+use Rattle.refusals.proofs.shape_refusal.Statement.{statement}
+use Rattle.refusals.proofs.shape_refusal.Tie as tie
 
 code-refusal-requires : tie.Need-code-refusal-requires
 code-refusal-requires c κs = search needs

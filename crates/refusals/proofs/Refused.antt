@@ -11,14 +11,14 @@ use borrow.Author.Tests.{eqb-true, eqb-false, ltb-false, leb-false, lt-leb, not-
 use Rattle.xor.specs.Sets.{any}
 use Rattle.xor.proofs.Cases.{by-test}
 use Rattle.xor.proofs.Sets.{any-none, none-any}
 use Rattle.codes.specs.declared.Shape.{Shape}
 use Rattle.codes.specs.Shape.{lastCode, rows, disks, existing, stripeLength, WellFormed}
 use Rattle.codes.specs.Geometry.{columnOf, cellAt}
 use Rattle.codes.specs.Encoded.{isParity}
-use Rattle.codes.specs.Refusals.{fault, outside, otherLength, order, refusal, codeFaults, sizeFaults, shapeFaults, stripeFaults, writeFaults, cellsFaults, columnsFaults}
+use Rattle.refusals.specs.Refusals.{fault, outside, otherLength, order, refusal, codeFaults, sizeFaults, shapeFaults, stripeFaults, writeFaults, cellsFaults, columnsFaults}
 use Rattle.codes.specs.Depends.{WriteRight}
 use Rattle.codes.proofs.Geometry.{column-there, is-there}
-use Rattle.codes.proofs.Order.{None, Gives, After, after, alone, gives, none-of}
+use Rattle.refusals.proofs.Order.{None, Gives, After, after, alone, gives, none-of}
 
 -- ---- a shape
 

@@ -9,7 +9,7 @@ use native.Mathlib.Omega.{arith}
 use lib.Dec.{eqb, leb, ltb}
 use borrow.Author.Tests.{le-leb, lt-leb, ltb-true, eqb-true, not-true}
 use Rattle.xor.proofs.Cases.{by-test, by-equal, clash, and-left, and-right, or-left}
-use Rattle.codes.specs.Refusals.{Fault, fault, order, applies, firstOf, refusal}
+use Rattle.refusals.specs.Refusals.{Fault, fault, order, applies, firstOf, refusal}
 
 -- whether a fault has number n
 abbrev pub among : ℕ → List Fault → Bool

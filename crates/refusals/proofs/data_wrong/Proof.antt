@@ -1,8 +1,8 @@
--- `codes::data_wrong` meets its contract. A number that is given is tried for the code, for 0 and for more than p - 1.
+-- `refusals::data_wrong` meets its contract. A number that is given is tried for the code, for 0 and for more than p - 1.
 use Rattle.codes.proofs.Shapes.{wrong-code, wrong-none, wrong-most}
 use borrow.Author.Needs.{needs}
-use Rattle.codes.proofs.data_wrong.Statement.{statement}
-use Rattle.codes.proofs.data_wrong.Tie as tie
+use Rattle.refusals.proofs.data_wrong.Statement.{statement}
+use Rattle.refusals.proofs.data_wrong.Tie as tie
 
 enum-known-width : tie.Need-enum-known-width
 enum-known-width c = search needs

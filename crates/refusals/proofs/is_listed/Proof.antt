@@ -1,8 +1,8 @@
--- `codes::is_listed` meets its contract. The numbers of the `match` are those of the list.
+-- `refusals::is_listed` meets its contract. The numbers of the `match` are those of the list.
 use mathlib.Core.Path.{sym}
 use Rattle.codes.proofs.Shapes.{one-of, none-of}
-use Rattle.codes.proofs.is_listed.Statement.{statement}
-use Rattle.codes.proofs.is_listed.Tie as tie
+use Rattle.refusals.proofs.is_listed.Statement.{statement}
+use Rattle.refusals.proofs.is_listed.Tie as tie
 
 returns : tie.Need-returns
 returns c = sym (one-of _ (c .match .keys1))

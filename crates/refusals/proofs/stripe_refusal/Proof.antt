@@ -1,13 +1,13 @@
--- `codes::stripe_refusal` meets its contract. What is wrong with the shape comes first, then the length.
+-- `refusals::stripe_refusal` meets its contract. What is wrong with the shape comes first, then the length.
 use mathlib.Core.Path.{_≡_, sym, ap, _∙_}
 use mathlib.Core.Bool.{not}
 use borrow.Author.Tests.{eq-eqb, ne-eqb}
-use Rattle.codes.specs.Refusals.{refusal, shapeFaults}
-use Rattle.codes.proofs.Order.{hit, miss, right}
-use Rattle.codes.proofs.Refused.{stripe-after, shape-accepted}
+use Rattle.refusals.specs.Refusals.{refusal, shapeFaults}
+use Rattle.refusals.proofs.Order.{hit, miss, right}
+use Rattle.refusals.proofs.Refused.{stripe-after, shape-accepted}
 use borrow.Author.Needs.{needs}
-use Rattle.codes.proofs.stripe_refusal.Statement.{statement}
-use Rattle.codes.proofs.stripe_refusal.Tie as tie
+use Rattle.refusals.proofs.stripe_refusal.Statement.{statement}
+use Rattle.refusals.proofs.stripe_refusal.Tie as tie
 
 shape-refusal-requires : tie.Need-shape-refusal-requires
 shape-refusal-requires c κs = search needs

@@ -1,11 +1,11 @@
--- `codes::parity_at` meets its contract. The column that lies there is looked at.
+-- `refusals::parity_at` meets its contract. The column that lies there is looked at.
 use mathlib.Core.Path.{sym, ap, _∙_, subst}
 use Prim.Native.Nat.{ℕ, _<_}
 use Rattle.codes.specs.Shape.{columns, cellNumber}
 use Rattle.codes.specs.Encoded.{isParity}
 use Rattle.codes.proofs.Geometry.{column-there}
-use Rattle.codes.proofs.parity_at.Statement.{statement}
-use Rattle.codes.proofs.parity_at.Tie as tie
+use Rattle.refusals.proofs.parity_at.Statement.{statement}
+use Rattle.refusals.proofs.parity_at.Tie as tie
 
 column-of-requires : tie.Need-column-of-requires
 column-of-requires c κs = (c .pre .0, c .pre .2)

@@ -2,10 +2,10 @@
 use mathlib.Core.Path.{_≡_, sym, ap, _∙_}
 use mathlib.Core.List.{List}
 use Prim.Native.Nat.{ℕ}
 use Rattle.codes.specs.declared.Counted.{Counted}
 use Rattle.codes.specs.declared.Counted.the-variants.{Count, Refused}
-use Rattle.codes.specs.Refusals.{Fault, refusal}
-use Rattle.codes.specs.Answer.{Answers}
+use Rattle.refusals.specs.Refusals.{Fault, refusal}
+use Rattle.refusals.specs.Answer.{Answers}
 
 module _ (f g : List Fault) (old x y : List ℕ) (P Q : ℕ → Type 0) (same : refusal f ≡ refusal g) (counts : refusal f ≡ 0 → (m n : ℕ) → P m → Q n → (m ≡ n) × (x ≡ y)) where
   pub one-answer : (a b : Counted) → Answers f old x P a → Answers g old y Q b → (a ≡ b) × (x ≡ y)
