@@ -21,13 +21,15 @@
 set -eu
 ROOT=$(cd "$(dirname "$0")/.." && pwd)
 
-# The calls are the rows of the table in calls.c. Of some only the stack is measured.
+# The calls are the rows of the table in calls.c. Of some only the stack is measured, of some
+# all but times.
 primes='5 7 17 31'
 cells='512 1000 4096'
 codes='1 2 3 4'
 short='1m4 17' # RDP with four data columns
 rebuild='two-columns one-column four-cells clean bad-column deciding'
 stack_only='plan show job'
+untimed='balanced-plan deciding'
 only=$(sed -n 's/^    {"\([a-z-]*\)", .*/\1/p' "$ROOT/harness/bench/calls.c" | grep -vxF "$(printf '%s\n' $stack_only)")
 known="$(echo $only) rebuild"
 lib=
@@ -255,8 +257,8 @@ measure() {
         $counter $shape "$@" >"$BUILD/counts"
         awk -v s="$shape" '{ print "instructions", s, $0 }' "$BUILD/counts"
     fi
-    [ -n "$times" ] && [ "$1" != deciding ] || return 0
-    driver time $shape "$others" "$@" >"$BUILD/times"
+    timed=$(printf '%s\n' "$@" | grep -vxF "$(printf '%s\n' $untimed)") && [ -n "$times" ] || return 0
+    driver time $shape "$others" $timed >"$BUILD/times"
     awk -v s="$shape" '{ print "warm", s, $1, $2, $3; print "cold", s, $1, $2, $4 }' "$BUILD/times"
 }
 
@@ -325,6 +327,7 @@ header() {
     echo "  Clean: no cell is lost, and the stripe is encoded. Bad column: the middle one, every byte of it bad."
     echo "- Run: all rows of the lost column 1 of RDP into a spare by the library's plan, made before; run-rows: by rows alone."
     echo "  No other column takes 1 % more instructions, with m = 4 none 9 %. With m below p - 1 a plan may read more than rows alone do."
+    echo "  Balanced plan: asked for lost column 1, where p has one; it goes over no data. Run-balanced: a run by it, made before."
     echo "  Leaf: (p - 1)^2 times, with m given (p - 1) m times, one cell XORed into another (the first of a row put), by the function with"
     echo "  which the same algorithm in C does it. Sums: the same cells, all of a row XORed at once. Of both where the cells lie is ready made."
     if [ -e "$peers/done" ]; then

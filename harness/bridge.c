@@ -57,6 +57,7 @@ enum operation {
     RUN = 8,
     SHOW = 9,
     JOB = 10,
+    BALANCED_PLAN = 11,
 };
 
 /* The longest job has five fields of a head and the most content, the longest answer two. */
@@ -219,6 +220,8 @@ static struct answer carry_out(const struct request *request, uint8_t *const len
                                    request->row, request->column));
     case JOB:
         return answered(zijraduf_job(bytes, bytes_length, spare, spare_length), spare, spare_length);
+    case BALANCED_PLAN:
+        return planned(zijraduf_balanced_plan(shape, request->k));
     }
     exit(3);
 }

@@ -32,19 +32,22 @@
  *
  * Nothing has to be checked before a call. Every number may be anything, 0 and
  * 2^64 - 1 included. A call that can't be carried out gives a refusal number,
- * the lowest that applies, where 14 comes after 2 and before 3, and every byte
- * that was lent is as it was (a job's refusal is its answer, which goes into the
- * output):
+ * the lowest that applies, where 14 comes after 2 and before 3, and 15 after 3 and
+ * before 4, and every byte that was lent is as it was (a job's refusal is its
+ * answer, which goes into the output):
  *
  *     1   code is not 1 to 4
  *     2   p is not in the list above
- *     14  m is given and is not 1 to p - 1, or is given for another code than RDP
- *     3   plan, run or show for another code than RDP
+ *     14  m is given and is not 1 to p - 1, or is given for another code than RDP;
+ *         of a balanced plan also where it is below p - 1
+ *     3   plan, balanced plan, run or show for another code than RDP
+ *     15  a balanced plan for another p than 3, 7, 11, 19, 23 and 31
  *     4   cell is not 1 to 4,096
  *     5   the stripe is not exactly rows x columns x cell bytes long, or the spare
  *         not exactly rows x cell
  *     6   a row, a column or a cell number is outside the stripe; of a run the first
- *         row, and of a show the rows done, is above p - 1
+ *         row, and of a show the rows done, is above p - 1; of a balanced plan also
+ *         k = p
  *     7   a small write to a parity cell
  *     8   new bytes that are not one cell long
  *     9   a plan that is not accepted
@@ -159,7 +162,7 @@ struct zijraduf_finding {
 struct zijraduf_finding zijraduf_bad_column(struct zijraduf_shape shape, const uint8_t *stripe,
                                             size_t length);
 
-/* ---- RDP with one lost column: plan, run, show. The lost column is k, 0 to p, with
+/* ---- RDP with one lost column: plans, run, show. The lost column is k, 0 to p, with
  * m given 0 to m + 1; the spare is one column, row i of it at i x cell. With m given,
  * what is said of k in plan and run is said of its number with the zeros put back:
  * p - 1 for the row parity column, p for the diagonal parity column. */
@@ -183,6 +186,16 @@ struct zijraduf_read_plan {
  * taken by diagonal.
  * Gives the plan, or refusal 1, 2, 14, 3, 4 or 6. */
 struct zijraduf_read_plan zijraduf_plan(struct zijraduf_shape shape, uint64_t k);
+
+/* Balanced plan: what to read to rebuild column k so that the load is even. There is
+ * one for p = 3, 7, 11, 19, 23 and 31, k below p, and all data columns: no m, or
+ * m = p - 1. The rows taken by their diagonals are the nonzero squares mod p, each
+ * moved on by s, mod p, with the smallest s from 0 on so that neither p - 1 nor
+ * p - 1 - k is among them. These are (p - 1) / 2 rows, and a run accepts the plan. It
+ * reads (3 p - 5) / 4 cells of every other column below p and (p - 1) / 2 of column p,
+ * which are 3 (p - 1)^2 / 4 in all, as many as zijraduf_plan's.
+ * Gives the plan, or refusal 1, 2, 14, 3, 15, 4 or 6. */
+struct zijraduf_read_plan zijraduf_balanced_plan(struct zijraduf_shape shape, uint64_t k);
 
 /* Run: rebuilds rows of column k into the spare by a plan, from the first row on
  * upward: as many as the budget says, or as are left. Call it again with the first

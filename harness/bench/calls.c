@@ -57,13 +57,24 @@ static void run_all(uint8_t *m, uint64_t plan)
 
 static void run_plan(uint8_t *m) { run_all(m, hand.plan); }
 static void run_rows(uint8_t *m) { run_all(m, 0); }
+static void run_balanced(uint8_t *m) { run_all(m, hand.balanced_plan); }
+
+static void take_plan(struct zijraduf_read_plan came)
+{
+    answer.refusal = came.refusal;
+    answer.value = came.rows ^ came.reads << 32;
+}
 
 static void plan_column(uint8_t *m)
 {
     (void)m;
-    struct zijraduf_read_plan came = SAME(plan)(hand.shape, hand.lost_column);
-    answer.refusal = came.refusal;
-    answer.value = came.rows ^ came.reads << 32;
+    take_plan(SAME(plan)(hand.shape, hand.lost_column));
+}
+
+static void balanced_plan(uint8_t *m)
+{
+    (void)m;
+    take_plan(SAME(balanced_plan)(hand.shape, hand.lost_column));
 }
 
 /* The last cell of the lost column, when all rows are done. */
@@ -97,6 +108,8 @@ const struct row SAME(rows)[] = {
     {"bad-column", always, &damaged, bad_column, data_bytes, .answer = &hand.bad_column},
     {"run", has_spare, &spared, run_plan, data_bytes, .answer = &hand.rows},
     {"run-rows", has_spare, &spared, run_rows, data_bytes, .answer = &hand.rows},
+    {"run-balanced", has_balance, &spared, run_balanced, data_bytes, .answer = &hand.rows},
+    {"balanced-plan", has_balance, &spared, balanced_plan, data_bytes, .answer = 0},
     {"plan", has_spare, &spared, plan_column, data_bytes, .answer = 0},
     {"show", has_spare, &spared, show_last, data_bytes, .answer = 0},
     {"job", has_job, &job_lost, do_job, data_bytes, .answer = 0},

@@ -5,7 +5,7 @@
  *     driver count CODE P CELL CALL..        one call of each, for what counts around it
  *     driver calls CODE P CELL CALL WHO N    N calls of one, for a counter around it
  *     driver time CODE P CELL BYTES CALL..   GB/s of data, warm, and cold: BYTES push out
- *     driver reads CODE P CELL CALL..        the distinct cells that run reads, and run-rows
+ *     driver reads CODE P CELL CALL..        the distinct cells that runs read, and the most of one column
  *     driver stack                           the most stack that a call uses
  *
  * CODE is a number, with m data columns given the number, an m and that number: 1m4. CALL is a row of calls.c, WHO a
@@ -18,6 +18,7 @@
 #include "programs.h"
 #include "reads.h"
 #include "stack.h"
+#include "stripes.h"
 #include "timing.h"
 
 /* The calls at hand. */
@@ -56,20 +57,27 @@ static void check_all(void)
     each_row(list_row, 0);
 }
 
+static void reads_of(const char *call, uint64_t planned)
+{
+    const struct program *ours = &programs[OURS];
+    struct reads came = cells_read(find_row(ours->rows, call));
+    if (came.all != planned)
+        wrong(ours->name, "a run reads other cells than its plan says");
+    printf("%s %s %lu %lu\n", call, ours->name, came.all, came.most);
+}
+
 /* They are as many whatever the size of a cell. */
 static void reads_all(void)
 {
-    const struct program *ours = &programs[OURS];
-    const struct row *by_plan = find_row(ours->rows, "run"), *by_rows = find_row(ours->rows, "run-rows");
     struct zijraduf_shape shape = hand.shape;
     shape.cell = 1;
     set_shape(shape);
-    if (!is_wanted(by_plan->call) || !by_plan->have())
-        return;
-    if (cells_read(by_plan) != zijraduf_plan(hand.shape, hand.lost_column).reads)
-        wrong(ours->name, "run reads other cells than its plan says");
-    printf("%s %s %lu\n", by_plan->call, ours->name, cells_read(by_plan));
-    printf("%s %s %lu\n", by_rows->call, ours->name, cells_read(by_rows));
+    if (is_wanted("run") && has_spare()) {
+        reads_of("run", zijraduf_plan(hand.shape, hand.lost_column).reads);
+        reads_of("run-rows", hand.sources * hand.rows);
+    }
+    if (is_wanted("run-balanced") && has_balance())
+        reads_of("run-balanced", zijraduf_balanced_plan(hand.shape, hand.lost_column).reads);
 }
 
 /* ---- the command line ---- */

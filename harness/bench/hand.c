@@ -2,6 +2,7 @@
 #include "hand.h"
 
 #include "libc.h"
+#include "stripes.h"
 
 struct hand hand;
 volatile struct answer answer;
@@ -36,6 +37,7 @@ void set_shape(struct zijraduf_shape shape)
     hand.bad_column = hand.columns / 2;
     hand.lost_column = 1;
     hand.plan = zijraduf_plan(hand.shape, hand.lost_column).rows;
+    hand.balanced_plan = has_balance() ? zijraduf_balanced_plan(hand.shape, hand.lost_column).rows : 0;
     for (uint64_t k = 0; k < 4; k++)
         hand.lost_cells[k] = k * hand.columns / 4 * hand.rows + quarter[k] * hand.rows / 4;
     for (uint64_t k = 0; k < hand.sources; k++)

@@ -6,20 +6,27 @@
 #include "libc.h"
 #include "memory.h"
 
-uint64_t cells_read(const struct row *run)
+struct reads cells_read(const struct row *run)
 {
-    uint64_t count = 0, cell = hand.shape.cell, bytes = hand.column_bytes;
+    struct reads reads = {0, 0};
+    uint64_t cell = hand.shape.cell, bytes = hand.column_bytes;
     uint8_t *m = memory(run->state->bytes()), *spare = m + hand.length, *right = memory(bytes);
     run->state->prepare(m);
     run->run(m);
     memcpy(right, spare, bytes);
-    for (uint64_t at = 0; at < hand.length; at += cell) {
-        damage(m + at, cell);
-        run->run(m);
-        count += memcmp(spare, right, bytes) != 0;
-        damage(m + at, cell);
+    for (uint64_t column = 0; column < hand.length; column += bytes) {
+        uint64_t count = 0;
+        for (uint64_t at = column; at < column + bytes; at += cell) {
+            damage(m + at, cell);
+            run->run(m);
+            count += memcmp(spare, right, bytes) != 0;
+            damage(m + at, cell);
+        }
+        reads.all += count;
+        if (reads.most < count)
+            reads.most = count;
     }
     free(m);
     free(right);
-    return count;
+    return reads;
 }

@@ -4,6 +4,11 @@
 
 #include "row.h"
 
-uint64_t cells_read(const struct row *run);
+/* All of them, and the most of one column. */
+struct reads {
+    uint64_t all, most;
+};
+
+struct reads cells_read(const struct row *run);
 
 #endif

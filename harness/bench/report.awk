@@ -1,5 +1,6 @@
-# Reads figures, lines 'KIND CODE P CELL CALL WHO VALUE', and prints tables of each
-# measure and a line for each bar. A new call has its table in tables() and its bars at the end.
+# Reads figures, lines 'KIND CODE P CELL CALL WHO VALUE', of reads with the most of one column
+# after it, and prints tables of each measure and a line for each bar. A new call has its table in
+# tables() and its bars at the end.
 # CODE is a number, with m data columns given the number, an m and that number: 1m4.
 
 {
@@ -7,6 +8,7 @@
     value[$1, row, $6] = $7
     if ($1 == "bytes" && $6 == "ours") rows[++count] = row
     if ($1 == "bytes") there[$5, $6] = 1
+    if ($1 == "reads") of_column[row, $6] = $8
     if ($1 == "stack") stacks[++stack_count] = $5
     kinds[$1] = 1
 }
@@ -48,7 +50,7 @@ function table(kind, title, list,    calls, n, c, r, w, wide, part, line, rule) 
     wide = columns_of(list)
     if (!(kind in kinds) || wide == 0) return
     printf "\n### %s\n\n", title
-    line = "| call        | code    |  p | cell |"; rule = "|-------------|---------|---:|-----:|"
+    line = "| call         | code    |  p | cell |"; rule = "|--------------|---------|---:|-----:|"
     for (w = 1; w <= wide; w++) { line = line sprintf(" %9s |", heads[columns[w]]); rule = rule "----------:|" }
     for (w = 2; w <= wide; w++) { line = line sprintf(" %11s |", "/ " heads[columns[w]]); rule = rule "------------:|" }
     print line; print rule
@@ -56,7 +58,7 @@ function table(kind, title, list,    calls, n, c, r, w, wide, part, line, rule) 
     for (c = 1; c <= n; c++) for (r = 1; r <= count; r++) {
         split(rows[r], part, SUBSEP)
         if (part[1] != calls[c]) continue
-        line = sprintf("| %-11s | %-7s | %2d | %4d |", part[1], code_name(part[2]), part[3], part[4])
+        line = sprintf("| %-12s | %-7s | %2d | %4d |", part[1], code_name(part[2]), part[3], part[4])
         for (w = 1; w <= wide; w++)
             line = line entry(figure(kind, rows[r], whos[columns[w]]), kind == "instructions" ? 3 : 2, 9)
         for (w = 2; w <= wide; w++)
@@ -70,7 +72,7 @@ function tables(kind, title) {
     printf "\n## %s\n", title
     table(kind, "Encode, broken, write", "encode broken write write-many")
     table(kind, "Rebuild and bad column", "two-columns one-column four-cells clean bad-column")
-    table(kind, "Run by plan", "run run-rows")
+    table(kind, "Run by plan", "run run-rows run-balanced")
 }
 
 # The cells that a run reads are as many whatever the size of a cell.
@@ -88,15 +90,32 @@ function reads(    r, part, plan, alone, last) {
     }
 }
 
-function deciding(    r, part, head) {
-    for (r = 1; r <= count; r++) if (rows[r] ~ /^deciding/ && figure("instructions", rows[r], "ours") != "") {
+# So are those of the column that it reads most of, which a balanced plan keeps few.
+function evenness(    r, part, plan, balanced, last) {
+    for (r = 1; r <= count; r++) if (rows[r] ~ "^run-balanced" SUBSEP) {
+        split(rows[r], part, SUBSEP)
+        if (part[2] SUBSEP part[3] == last) continue
+        if (!last) {
+            printf "\n## Run by balanced plan: the most cells read of one column, and as a multiple (less is better)\n\n"
+            print "| code    |  p | balanced | by plan | / plan |"; print "|---------|---:|---------:|--------:|-------:|"
+        }
+        last = part[2] SUBSEP part[3]
+        balanced = of_column[rows[r], "ours"]; plan = of_column[same_row(rows[r], "run", "", ""), "ours"]
+        printf "| %-7s | %2d | %8d |%s%s\n", code_name(part[2]), part[3], balanced, entry(plan, 0, 7), entry(by(balanced, plan), 2, 6)
+    }
+}
+
+# All instructions of a call that goes over no data, or over little.
+function counts(call, title,    r, part, head) {
+    for (r = 1; r <= count; r++) if (rows[r] ~ "^" call SUBSEP && figure("instructions", rows[r], "ours") != "") {
         if (!head++) {
-            printf "\n## Deciding: all instructions of two lost columns with cells of one byte\n\n"
-            print "| code    |  p |      ours |         C |    / C |"; print "|---------|---:|----------:|----------:|-------:|"
+            printf "\n## %s\n\n", title
+            print "| code    |  p | cell |      ours |         C |    / C |"; print "|---------|---:|-----:|----------:|----------:|-------:|"
         }
         split(rows[r], part, SUBSEP)
-        printf "| %-7s | %2d | %9d | %9d |%s\n", codes[part[2]], part[3], value["instructions", rows[r], "ours"], \
-            value["instructions", rows[r], "c"], entry(ratio("instructions", rows[r], "c"), 2, 6)
+        printf "| %-7s | %2d | %4d | %9d | %9d |%s\n", code_name(part[2]), part[3], part[4], \
+            value["instructions", rows[r], "ours"], value["instructions", rows[r], "c"], \
+            entry(ratio("instructions", rows[r], "c"), 2, 6)
     }
 }
 
@@ -113,11 +132,11 @@ function take(x, row,    part) {
     }
 }
 
-function judge(name) {
+function judge(name, whole) {
     if (limit != "") name = name " at most " limit
     if (taken == 0) printf "- not measured: %s\n", name
     else printf "- %s: %s; the most is %s (%s)%s\n", limit == "" ? "no bar" : over ? "MISSED" : "ok", name, \
-        worst < 1000 ? sprintf("%.3f", worst) : worst, where, over ? sprintf("; %d of %d over", over, taken) : ""
+        whole ? worst : sprintf("%.3f", worst), where, over ? sprintf("; %d of %d over", over, taken) : ""
     taken = over = 0
 }
 
@@ -170,10 +189,10 @@ function bar_over_p(call, most,    r) {
     judge(call " at p = 31 / at p = 5")
 }
 
-function bar_of_deciding(most,    r) {
+function bar_of_count(call, most,    r) {
     limit = most
-    for (r = 1; r <= count; r++) if (is_of(rows[r], "deciding", 0)) take(value[kind, rows[r], "ours"], rows[r])
-    judge("deciding, instructions")
+    for (r = 1; r <= count; r++) if (is_of(rows[r], call, 0)) take(value[kind, rows[r], "ours"], rows[r])
+    judge(call ", instructions", 1)
 }
 
 # A call of a shelf with fewer disks to the same call of RDP at p = 5 with all of them.
@@ -206,8 +225,10 @@ END {
     split("ours,C,leaf,sums,ISA-L SSE,ISA-L,Jerasure,lazy,snapraid,memcpy", heads, ",")
     split("RDP,H-Code,X-Code,EVENODD", codes, ",")
     tables("instructions", "Instructions per data byte, of write per byte of the cell, and ours as a multiple (less is better)")
-    deciding()
+    counts("deciding", "Deciding: all instructions of two lost columns with cells of one byte")
+    counts("balanced-plan", "Balanced plan: all instructions of a call")
     reads()
+    evenness()
     tables("warm", "GB/s of data, warm, and ours as a multiple (more is better)")
     tables("cold", "GB/s of data, cold, and ours as a multiple (more is better)")
 
@@ -223,6 +244,7 @@ END {
     bar_to_call("broken", "encode", 1.15, 0)
     bar_to_c("write", 1.1, 0)
     bar_over_p("write", 1.3)
+    bar_of_count("balanced-plan", 300)
 
     printf "\nOf these, p = 17 and 31, cells of 512 and 4,096 bytes:\n\n"
     bar_to_call("two-columns", "encode", 2.5, 1)
@@ -233,7 +255,8 @@ END {
     for (k = 1; k <= n; k++) bar_to_c(list[k], 1.1, 1)
     bar_to("run", "sums", "its (p - 1)^2 cell XORs by the leaf that sums runs", 1.05, 1)
     bar_to("run", "leaf", "its (p - 1)^2 cell XORs one at a time", "", 1)
-    bar_of_deciding(400000)
+    bar_to_call("run-balanced", "run", 1.02, 1)
+    bar_of_count("deciding", 400000)
 
     printf "\nOf EVENODD, p = 17 and 31, cells of 512 and 4,096 bytes:\n\n"
     at_hand = "4"
@@ -247,7 +270,7 @@ END {
     bar_to_call("bad-column", "broken", 3.5, 1)
     n = split("encode broken write write-many two-columns one-column four-cells clean bad-column", list, " ")
     for (k = 1; k <= n; k++) bar_to_c(list[k], 1.1, 1)
-    bar_of_deciding(400000)
+    bar_of_count("deciding", 400000)
 
     printf "\nOf EVENODD, all cells:\n\n"
     bar_over_p("write", 1.3)

@@ -7,6 +7,7 @@
 #include "same/rebuild.h"
 #include "same/bad.h"
 #include "same/spare.h"
+#include "same/balance.h"
 #include "same/jobs.h"
 #include "same/xor.h"
 

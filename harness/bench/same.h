@@ -18,6 +18,7 @@ typeof(zijraduf_rebuild_cells) SAME(rebuild_cells);
 typeof(zijraduf_rebuild_columns) SAME(rebuild_columns);
 typeof(zijraduf_bad_column) SAME(bad_column);
 typeof(zijraduf_plan) SAME(plan);
+typeof(zijraduf_balanced_plan) SAME(balanced_plan);
 typeof(zijraduf_run) SAME(run);
 typeof(zijraduf_show) SAME(show);
 typeof(zijraduf_job) SAME(job);

@@ -13,6 +13,7 @@ static size_t job_bytes(void) { return ZIJRADUF_JOB_LONGEST + ZIJRADUF_ANSWER_LO
 int always(void) { return 1; }
 int has_many(void) { return hand.shape.code == 4; }
 int has_spare(void) { return hand.shape.code == 1; }
+int has_balance(void) { return has_spare() && hand.shape.p % 4 == 3 && hand.sources == hand.shape.p - 1; }
 int has_job(void) { return !hand.shape.data_given && hand.length + 7 <= ZIJRADUF_ANSWER_LONGEST; }
 
 static void put_any(uint8_t *m) { fill(m, hand.length); }

@@ -1,11 +1,12 @@
 //! The table of calls. A new call is a row here, its rules in second/, its cases in
 //! cases/, and a case of the bridge's `carry_out`.
 
+use crate::cases::balance::known_balanced;
 use crate::cases::case::Row;
 use crate::cases::loans::{BYTES, LOST, SPARE, STRIPE};
 use crate::cases::{findings, jobs, rebuilds, runs, writes};
 use crate::second::call::{Answer, Lent, Operation, CLEAN, COLUMN, UNEXPLAINED};
-use crate::second::{encode, job, rebuild, spare, write};
+use crate::second::{balance, encode, job, rebuild, spare, write};
 
 /// In the order of the calls' numbers. Cases come in this order too: the listed ones, and
 /// the random ones by their shares.
@@ -135,6 +136,20 @@ pub static CALLS: &[Row] = &[
         random: |cases| cases.random_job(),
         share: 1,
         ..ON_STRIPE
+    },
+    // Runs by balanced plans are among its cases.
+    Row {
+        operation: balance::BALANCED_PLAN,
+        name: "balanced plan",
+        refusals: &[1, 2, 14, 3, 15, 4, 6],
+        granted: balance::granted,
+        answer: balance::balanced_plan,
+        lends: &[],
+        known: known_balanced,
+        list: |cases| cases.balanced_plans(),
+        random: |cases| cases.random_balanced(),
+        share: 1,
+        ..OF_RDP
     },
 ];
 

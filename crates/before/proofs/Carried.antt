@@ -211,16 +211,16 @@ module _ (s : Shape) (w : Whole s) where
   unfolding byRule rows
   rule-as k plan = (λ e. record { low = e .low; rule = e .rule }, λ e. record { low = e .low; rule = e .rule })
 
-  gives-as : (k : ℕ) (answer : PlanAnswer) → GivesPlan s k answer ↔ was.GivesPlan (full s) k answer
+  gives-as : (k : ℕ) (answer : PlanAnswer) → GivesPlan s k (byRule s k) answer ↔ was.GivesPlan (full s) k answer
   gives-as k answer = (
-    λ e. record { plan = e .plan; says = e .says; rule = rule-as k (e .plan .rows) .0 (e .rule); reads = e .reads ∙ (λ i. reads-as s w i k (e .plan .rows)) },
-    λ e. record { plan = e .plan; says = e .says; rule = rule-as k (e .plan .rows) .1 (e .rule); reads = e .reads ∙ sym (λ i. reads-as s w i k (e .plan .rows)) },
+    λ e. record { plan = e .plan; says = e .says; rule = rule-as k (e .plan .rows) .0 (e .taken); reads = e .reads ∙ (λ i. reads-as s w i k (e .plan .rows)) },
+    λ e. record { plan = e .plan; says = e .says; taken = rule-as k (e .plan .rows) .1 (e .rule); reads = e .reads ∙ sym (λ i. reads-as s w i k (e .plan .rows)) },
   )
 
   pub plans-as : (k : ℕ) (answer : PlanAnswer) → Plans s k answer ↔ was.Plans (full s) k answer
   plans-as k answer =
       let number = plan-refused s w k in
-      let gives = Iff·trans (along (λ i. GivesPlan s (columns-as s w i k) answer)) (gives-as (was.columnOf (full s) k) answer) in (
+      let gives = Iff·trans (along (λ i. GivesPlan s (columns-as s w i k) (byRule s (columns-as s w i k)) answer)) (gives-as (was.columnOf (full s) k) answer) in (
         λ e. record { number = e .number ∙ number; given = λ z. gives .0 (e .given z) },
         λ e. record { number = e .number ∙ sym number; given = λ z. gives .1 (e .given z) },
       )

@@ -104,43 +104,47 @@ module _ (s : Shape) (w : Whole s) where
 
   -- ---- refusals
 
-  -- 14 among the faults and in the order counts for nothing: it doesn't apply, or 2 goes before it; and no fault that follows has its number
-  refused : {faults faults′ : List Fault} → faults ≡ faults′ → applies faults′ 14 ≡ false
+  -- no fault has a number that document 01 doesn't have
+  abbrev Known : List Fault → Type 0
+  Known faults = (applies faults 14 ≡ false) × (applies faults 15 ≡ false)
+
+  -- 14 among the faults and in the order counts for nothing, nor does 15: 14 doesn't apply, or 2 goes before it; and no fault that follows has their numbers
+  refused : {faults faults′ : List Fault} → faults ≡ faults′ → Known faults′
       → refusal (codeFaults s ++ faults) ≡ was.refusal (was.codeFaults (full s) ++ faults′)
   unfolding refusal firstOf applies order was.refusal was.order
-  refused path e = (λ i. refusal (codeFaults s ++ path i)) ∙ rw (past (s .code) (w .known)) (by-test (listed (s .p)) (λ h. rw (h, w .right h, e) refl) (λ h. rw h refl))
+  refused path e = (λ i. refusal (codeFaults s ++ path i)) ∙ rw (past (s .code) (w .known)) (by-test (listed (s .p)) (λ h. rw (h, w .right h, e .0, e .1) refl) (λ h. rw h refl))
 
   -- those of a call on a lent stripe of so many bytes that has more faults
-  stripe-more : {more more′ : List Fault} (bytes : ℕ) → more ≡ more′ → applies more′ 14 ≡ false
+  stripe-more : {more more′ : List Fault} (bytes : ℕ) → more ≡ more′ → Known more′
       → refusal (stripeFaults s bytes ++ more) ≡ was.refusal (was.stripeFaults (full s) bytes ++ more′)
   unfolding stripeFaults shapeFaults was.stripeFaults was.shapeFaults applies
   stripe-more bytes path e = refused (λ i. sizeFaults s ++ otherLength bytes (length-as i) ∷ path i) e
 
   pub stripe-refused : (bytes : ℕ) → refusal (stripeFaults s bytes) ≡ was.refusal (was.stripeFaults (full s) bytes)
   unfolding stripeFaults shapeFaults was.stripeFaults was.shapeFaults applies
-  stripe-refused bytes = refused (λ i. sizeFaults s ++ otherLength bytes (length-as i) ∷ []) refl
+  stripe-refused bytes = refused (λ i. sizeFaults s ++ otherLength bytes (length-as i) ∷ []) (refl, refl)
 
   pub write-refused : (bytes row column new : ℕ) → refusal (writeFaults s bytes row column new) ≡ was.refusal (was.writeFaults (full s) bytes row column new)
   unfolding writeFaults was.writeFaults applies rows columns isParity equations parityCell equation cellNumber
   write-refused bytes row column new =
       stripe-more bytes
       (λ i. outside row (rows s) ∷ outside column (disks-all i) ∷ fault 7 (isParity s (cellNumber s row (columns-as i column))) ∷ fault 8 (not (eqb new (s .cell))) ∷ [])
-      refl
+      (refl, refl)
 
   pub cells-refused : (bytes : ℕ) (numbers : List ℕ) → refusal (cellsFaults s bytes numbers) ≡ was.refusal (was.cellsFaults (full s) bytes numbers)
   unfolding cellsFaults was.cellsFaults applies cells columns rows
-  cells-refused bytes numbers = stripe-more bytes (λ i. fault 6 (any (length numbers) (λ k. leb (existing-all i) (getD numbers k 0))) ∷ []) refl
+  cells-refused bytes numbers = stripe-more bytes (λ i. fault 6 (any (length numbers) (λ k. leb (existing-all i) (getD numbers k 0))) ∷ []) (refl, refl)
 
   pub columns-refused : (bytes a b : ℕ) → refusal (columnsFaults s bytes a b) ≡ was.refusal (was.columnsFaults (full s) bytes a b)
   unfolding columnsFaults was.columnsFaults applies columns
-  columns-refused bytes a b = stripe-more bytes (λ i. outside a (disks-all i) ∷ outside b (disks-all i) ∷ []) refl
+  columns-refused bytes a b = stripe-more bytes (λ i. outside a (disks-all i) ∷ outside b (disks-all i) ∷ []) (refl, refl)
 
   -- those of a call for RDP alone, and on a lent stripe and a lent spare
   pub plan-refused : (k : ℕ) → refusal (planFaults s k) ≡ was.refusal (was.planFaults (full s) k)
   unfolding planFaults was.planFaults applies columns
-  plan-refused k = refused (λ i. notRdp s ∷ sizeFaults s ++ outside k (disks-all i) ∷ []) refl
+  plan-refused k = refused (λ i. notRdp s ∷ sizeFaults s ++ outside k (disks-all i) ∷ []) (refl, refl)
 
-  spare-more : {more more′ : List Fault} (bytes spare : ℕ) → more ≡ more′ → applies more′ 14 ≡ false
+  spare-more : {more more′ : List Fault} (bytes spare : ℕ) → more ≡ more′ → Known more′
       → refusal (spareFaults s bytes spare ++ more) ≡ was.refusal (was.spareFaults (full s) bytes spare ++ more′)
   unfolding spareFaults was.spareFaults applies rows
   spare-more bytes spare path e = refused (λ i. notRdp s ∷ sizeFaults s ++ otherLength bytes (length-as i) ∷ otherLength spare (rows s * s .cell) ∷ path i) e
@@ -148,14 +152,14 @@ module _ (s : Shape) (w : Whole s) where
   pub run-refused : (bytes spare k plan first : ℕ) → refusal (runFaults s bytes spare k plan first) ≡ was.refusal (was.runFaults (full s) bytes spare k plan first)
   unfolding runFaults was.runFaults applies columns isAccepted rows
   run-refused bytes spare k plan first =
-      spare-more bytes spare (λ i. outside k (disks-all i) ∷ outside first (s .p) ∷ fault 9 (not (isAccepted s (columns-as i k) plan)) ∷ []) refl
+      spare-more bytes spare (λ i. outside k (disks-all i) ∷ outside first (s .p) ∷ fault 9 (not (isAccepted s (columns-as i k) plan)) ∷ []) (refl, refl)
 
   pub show-refused : (bytes spare k done row column : ℕ) → refusal (showFaults s bytes spare k done row column) ≡ was.refusal (was.showFaults (full s) bytes spare k done row column)
   unfolding showFaults was.showFaults applies rows columns
   show-refused bytes spare k done row column =
       spare-more bytes spare
       (λ i. outside row (rows s) ∷ outside column (disks-all i) ∷ outside k (disks-all i) ∷ outside done (s .p) ∷ fault 10 (eqb column k && leb done row) ∷ [])
-      refl
+      (refl, refl)
 
   -- ---- plans and runs
 

@@ -50,7 +50,7 @@ none-of p none =
     (inr (inr (inr (inr (inr (inl refl)))))) (inr (inr (inr (inr (inr (inr (inl refl))))))) (inr (inr (inr (inr (inr (inr (inr (inl refl))))))))
     (inr (inr (inr (inr (inr (inr (inr (inr (inl refl))))))))) (inr (inr (inr (inr (inr (inr (inr (inr (inr refl))))))))) p h))
 
-prime-low : (p : ℕ) → listed p ≡ true → 3 ≤ p
+pub prime-low : (p : ℕ) → listed p ≡ true → 3 ≤ p
 prime-low = each-prime (λ p. 3 ≤ p) (omega arith) (omega arith) (omega arith) (omega arith) (omega arith) (omega arith) (omega arith) (omega arith) (omega arith) (omega arith)
 
 prime-high : (p : ℕ) → listed p ≡ true → p ≤ 31

@@ -1,4 +1,5 @@
-// The calls from Rattle, on small stripes: RDP with p = 3 and cells of one byte, 2 rows and 4 columns, then a shelf of five disks, then EVENODD.
+// The calls from Rattle, on small stripes: RDP with p = 3 and cells of one byte, 2 rows and 4 columns, then a shelf of five disks, then
+// EVENODD, then a balanced plan.
 use bad::BadColumn;
 use codes::Counted;
 use codes::Shape;
@@ -81,6 +82,23 @@ fn evenodd() {
     );
 }
 
+// RDP with p = 7, disk 0 lost: the balanced plan reads as many cells of each other disk but the last.
+fn balanced() {
+    let shape = Shape {
+        code: 1,
+        p: 7,
+        cell: 1,
+        width: Width::Full,
+    };
+    match balance::balanced_plan(shape, 0) {
+        PlanAnswer::Plan(plan) => {
+            tell(b"rows of the balanced plan", plan.rows as usize);
+            tell(b"cells that it reads", plan.reads);
+        }
+        PlanAnswer::Refused(number) => tell(b"balanced plan refused", number),
+    }
+}
+
 fn main() {
     let shape = Shape {
         code: 1,
@@ -112,4 +130,5 @@ fn main() {
     );
     five_disks();
     evenodd();
+    balanced();
 }

@@ -4,9 +4,11 @@ use mathlib.Core.Logic.{_≢_}
 use mathlib.Core.List.{List, [], _∷_}
 use mathlib.Core.Bool.{Bool, true, false, cond}
 use Prim.Native.Nat.{ℕ, _+_, _≤_, _<_}
+use native.Mathlib.Nat.{lt-of-le-of-lt}
 use native.Mathlib.Omega.{arith}
 use lib.ListN.{length, take, drop, replicate, length-replicate}
 use lib.Seq.{length-take-le}
+use borrow.Author.Tests.{ltb-true}
 use Rattle.xor.proofs.Cases.{by-equal}
 use Rattle.codes.specs.declared.Shape.{Shape}
 use Rattle.refusals.specs.Refusals.{Fault, order, applies, firstOf, refusal, cellsFaults}
@@ -66,7 +68,7 @@ first-most (n ∷ numbers) faults = either′ (applies faults n) (firstOf number
 
 refusal-small : (faults : List Fault) → refusal faults < 256
 unfolding refusal order sum
-refusal-small faults = let most : firstOf order faults ≤ 105 = first-most order faults in omega arith
+refusal-small faults = lt-of-le-of-lt (first-most order faults) (ltb-true (sum order) 256 refl)
 
 pub answer-small : (s : Shape) (lost old : List ℕ) (answer : ℕ) (new : List ℕ) → RebuildsCells s lost old answer new → answer < 256
 answer-small s lost old answer new r = by-equal (refusal (cellsFaults s (length old) lost)) 0 right wrong

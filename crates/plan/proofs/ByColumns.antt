@@ -108,6 +108,27 @@ module _ (s : Shape) (k plan : ℕ) (of : RdpColumn s k) (accepted : isAccepted 
   pub taken-most : ones plan ≤ s .p - 1
   taken-most = omega (arith, ones-le (rows s) plan (plan-low s k plan of accepted), last-row s k of)
 
+  -- of a surviving column j below p it reads p-1-x cells, where x rows are taken by diagonal, and one more for each i with i and i+j-k mod p both
+  -- by diagonal; p is added so that j-k is no less than 0
+  pub surviving-reads : (j : ℕ) → j < columns s → isThere s j ≡ true → j ≢ k → j < s .p
+      → columnReads s k plan j ≡ s .p - 1 - ones plan + count (rows s) (λ i. bit ((i + j + (s .p - k)) % s .p) plan && bit i plan)
+  surviving-reads j lj there other l =
+      omega (arith, taken-most, count-either (rows s) taken met, there-reads j lj there, read, ones-bits (rows s) plan (plan-low s k plan of accepted), last-row s k of)
+    where
+      taken : ℕ → Bool
+      taken i = bit i plan
+
+      met : ℕ → Bool
+      met i = bit ((i + j + (s .p - k)) % s .p) plan
+
+      same : (i : ℕ) → home s k (diagonal s j i) ≡ (i + j + (s .p - k)) % s .p
+      same i = ap (home s k) (diagonal-below s j i l) ∙ mod-add-mod (i + j) (s .p) (s .p - k)
+
+      read : count (rows s) (λ i. isRead s k plan i j) ≡ count (rows s) (λ i. not (taken i) || met i)
+      read =
+          count-same (rows s) (λ i. isRead s k plan i j) (λ i. not (taken i) || met i)
+          (λ i li. rw (ne-eqb j k other, lt-ltb j (s .p) l) (ap (λ (x : ℕ). not (bit i plan) || bit x plan) (same i)))
+
   -- as the code counts another one: `up` is the plan moved up by p
   module _ (j up : ℕ) (at : RdpColumn s j) (other : j ≢ k) (moved : up ≡ plan * 2 ^ s .p) where
     -- the plan turned by so many rows
@@ -130,36 +151,22 @@ module _ (s : Shape) (k plan : ℕ) (of : RdpColumn s k) (accepted : isAccepted 
         rows-all : all ≡ 2 ^ rows s - 1
         rows-all = every ∙ ap (λ (n : ℕ). 2 ^ n - 1) (last-row s k of)
 
-    -- of another the rows that are taken by row, and of the remaining ones those on such a diagonal
-    pub count-below : (turn : ℕ) → j < s .p → turn ≡ (j + (s .p - k)) % s .p
+    -- of another below p as surviving-reads has it
+    pub count-below : (turn : ℕ) → (l : j < s .p) → turn ≡ (j + (s .p - k)) % s .p
         → s .p - 1 - ones plan + ones (bitAnd (bitOr plan up / 2 ^ turn) plan) ≡ columnReads s k plan j
-    count-below turn l e = omega (arith, taken-most, both, count-either (rows s) taken met, there-reads j (at .column) (at .there), read, ones-bits (rows s) plan low-bits, last-row s k of)
+    count-below turn l e = ap (_+_ (s .p - 1 - ones plan)) both ∙ sym (surviving-reads j (at .column) (at .there) other l)
       where
         turned : ℕ
         turned = bitOr plan up / 2 ^ turn
 
-        taken : ℕ → Bool
-        taken i = bit i plan
-
-        met : ℕ → Bool
-        met i = bit (home s k (diagonal s j i)) plan
-
-        low-bits : plan < 2 ^ rows s
-        low-bits = plan-low s k plan of accepted
-
         small : turn ≤ s .p
         small = omega (arith, e, mod-lt (j + (s .p - k)) (let some : 0 < s .p = omega arith in some))
 
-        same : (i : ℕ) → (i + turn) % s .p ≡ home s k (diagonal s j i)
-        same i =
-            ap (λ (x : ℕ). (i + x) % s .p) e ∙ add-mod-mod i (j + (s .p - k)) (s .p) ∙ ap (λ (x : ℕ). x % s .p) (sym (add-assoc i j (s .p - k)))
-            ∙ sym (ap (home s k) (diagonal-below s j i l) ∙ mod-add-mod (i + j) (s .p) (s .p - k))
+        same : (i : ℕ) → (i + turn) % s .p ≡ (i + j + (s .p - k)) % s .p
+        same i = ap (λ (x : ℕ). (i + x) % s .p) e ∙ add-mod-mod i (j + (s .p - k)) (s .p) ∙ ap (λ (x : ℕ). x % s .p) (sym (add-assoc i j (s .p - k)))
 
-        both : ones (bitAnd (bitOr plan up / 2 ^ turn) plan) ≡ count (rows s) (λ i. met i && taken i)
+        both : ones (bitAnd turned plan) ≡ count (rows s) (λ i. bit ((i + j + (s .p - k)) % s .p) plan && bit i plan)
         both =
-            ones-bits (rows s) (bitAnd turned plan) (lt-of-le-of-lt (and-le-r turned plan) low-bits)
-            ∙ count-same (rows s) (λ i. bit i (bitAnd turned plan)) (λ i. met i && taken i)
+            ones-bits (rows s) (bitAnd turned plan) (lt-of-le-of-lt (and-le-r turned plan) (plan-low s k plan of accepted))
+            ∙ count-same (rows s) (λ i. bit i (bitAnd turned plan)) (λ i. bit ((i + j + (s .p - k)) % s .p) plan && bit i plan)
             (λ i li. bit-and i turned plan ∙ ap (λ (b : Bool). b && bit i plan) (turned-by i turn li small ∙ ap (λ (x : ℕ). bit x plan) (same i)))
-
-        read : count (rows s) (λ i. isRead s k plan i j) ≡ count (rows s) (λ i. not (taken i) || met i)
-        read = count-same (rows s) (λ i. isRead s k plan i j) (λ i. not (taken i) || met i) (λ i li. rw (ne-eqb j k other, lt-ltb j (s .p) l) refl)

@@ -43,7 +43,7 @@ quarter : (h : ℕ) → 2 * h * (2 * h) - h * (2 * h - h) ≡ 3 * (2 * h * (2 * 
 quarter h = let half : 2 * h - h ≡ h = omega arith in rw half (omega arith)
 
 -- p is odd
-even-rows : (s : Shape) → WellFormed s → s .p - 1 ≡ 2 * ((s .p - 1) / 2)
+pub even-rows : (s : Shape) → WellFormed s → s .p - 1 ≡ 2 * ((s .p - 1) / 2)
 even-rows s w = each-prime (λ p. p - 1 ≡ 2 * ((p - 1) / 2)) refl refl refl refl refl refl refl refl refl refl (s .p) (w .prime)
 
 -- where every column exists, no accepted plan reads fewer than three quarters of (p-1)²
@@ -55,6 +55,14 @@ reads-least s k plan full c accepted =
     let whole : x + (n - x) ≡ n = omega arith in
     let product : 4 * (x * (n - x)) ≤ n * n = rw whole at (four x (n - x)) in
     omega (arith, plan-reads s k plan c accepted full)
+
+-- where every column exists, an accepted plan that takes half of the rows by diagonal reads three quarters of (p-1)²
+pub half-reads : (s : Shape) (k plan : ℕ) → missing s ≡ 0 → RdpColumn s k → isAccepted s k plan ≡ true → ones plan ≡ (s .p - 1) / 2
+    → cellsRead s k plan ≡ 3 * ((s .p - 1) * (s .p - 1)) / 4
+half-reads s k plan full c accepted half =
+    plan-reads s k plan c accepted full
+    ∙ ap (λ (x : ℕ). (s .p - 1) * (s .p - 1) - x * (s .p - 1 - x)) half
+    ∙ subst (λ (n : ℕ). n * n - (s .p - 1) / 2 * (n - (s .p - 1) / 2) ≡ 3 * (n * n) / 4) (sym (even-rows s (c .formed))) (quarter ((s .p - 1) / 2))
 
 module _ (s : Shape) (k plan : ℕ) (c : RdpColumn s k) (rule : ByRule s k plan) where
   -- a plan by the rule is accepted
@@ -101,10 +109,7 @@ module _ (s : Shape) (k plan : ℕ) (c : RdpColumn s k) (rule : ByRule s k plan)
 
     -- where every column exists it reads three quarters of (p-1)²
     pub rule-reads : missing s ≡ 0 → cellsRead s k plan ≡ 3 * ((s .p - 1) * (s .p - 1)) / 4
-    rule-reads full =
-        plan-reads s k plan c rule-accepted full
-        ∙ ap (λ (x : ℕ). (s .p - 1) * (s .p - 1) - x * (s .p - 1 - x)) rule-ones
-        ∙ subst (λ (n : ℕ). n * n - (s .p - 1) / 2 * (n - (s .p - 1) / 2) ≡ 3 * (n * n) / 4) (sym (even-rows s (c .formed))) (quarter ((s .p - 1) / 2))
+    rule-reads full = half-reads s k plan full c rule-accepted rule-ones
 
   module _ (last : k ≡ s .p) where
     -- it takes every row by diagonal

@@ -128,6 +128,11 @@ module _ (s : Shape) (k plan : ℕ) (c : RdpColumn s k) (accepted : isAccepted s
             ap (λ (d : ℕ). taken (home s k d)) (sym (last-row s k c)) ∙ ap taken (missing-home s k below)
             ∙ missing-left s k plan c accepted below
 
+    pub last-surviving : columnReads s k plan (s .p) ≡ ones plan
+    unfolding taken
+    last-surviving =
+        there-reads s k plan c accepted (s .p) (omega (arith, wide)) (there-all s full (s .p)) ∙ last-reads ∙ sym (ones-bits (rows s) plan small)
+
     -- x rows of x-1 cells, p-1-x rows of p-1 cells, and x cells of column p
     below-reads : cellsRead s k plan ≡ (s .p - 1) * (s .p - 1) - ones plan * (s .p - 1 - ones plan)
     unfolding taken

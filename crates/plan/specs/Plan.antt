@@ -36,10 +36,14 @@ byRule s k i =
     eqb k (s .p)
     || (not (eqb (i + k) (s .p - 1)) && ltb (count i (λ j. not (eqb (j + k) (s .p - 1)))) ((s .p - 1) / 2))
 
--- a plan by the rule: no bit above p-2, and each row as the rule says
-pub record ByRule (s : Shape) (k plan : ℕ) : Type 0 where
+-- a plan that takes by diagonal the rows that pass a test: no bit above p-2, and each row as the test says
+pub record TakesRows (s : Shape) (test : ℕ → Bool) (plan : ℕ) : Type 0 where
   pub low : plan < 2 ^ rows s
-  pub rule : (i : ℕ) → i < rows s → bit i plan ≡ byRule s k i
+  pub rule : (i : ℕ) → i < rows s → bit i plan ≡ test i
+
+-- a plan by the rule
+abbrev pub ByRule : Shape → ℕ → ℕ → Type 0
+ByRule s k = TakesRows s (byRule s k)
 
 -- whether a plan is accepted: no bit above p-2, no diagonal for row p-1-k if k is 1 to p-1, and all p-1 bits if k = p
 unfoldable pub isAccepted : Shape → ℕ → ℕ → Bool

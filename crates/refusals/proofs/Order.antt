@@ -152,6 +152,15 @@ module _ {n : ℕ} {applies : Bool} {late : List Fault} where
   pub miss : {r : ℕ} → applies ≡ false → Gives late r → Gives (fault n applies ∷ late) r
   miss off g = record { given = rw off (g .given) }
 
+-- faults that stand between: they decide where one of them applies, and else the next
+module _ (early late : List Fault) (h : inOrder early ≡ true) where
+  pub decides : {r : ℕ} → Gives early r → r ≢ 0 → Gives (early ++ late) r
+  decides g k = record { given = sym (first-append early late h ∙ ap (λ (x : ℕ). orElse x (first late)) (sym (g .given)) ∙ some-first _ (first late) k) }
+
+  pub passes : {r : ℕ} → Gives early 0 → Gives late r → Gives (early ++ late) r
+  unfolding orElse
+  passes none g = record { given = g .given ∙ sym (first-append early late h ∙ ap (λ (x : ℕ). orElse x (first late)) (sym (none .given))) }
+
 pub right : Gives [] 0
 right = record { given = refl }
 

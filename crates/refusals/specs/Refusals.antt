@@ -17,7 +17,7 @@ pub record Fault : Type 0 where
 
 -- the refusal numbers in the order in which they go before each other
 unfoldable pub order : List ℕ
-order = 13 ∷ 1 ∷ 2 ∷ 14 ∷ 3 ∷ 4 ∷ 5 ∷ 6 ∷ 7 ∷ 8 ∷ 9 ∷ 10 ∷ 11 ∷ 12 ∷ []
+order = 13 ∷ 1 ∷ 2 ∷ 14 ∷ 3 ∷ 15 ∷ 4 ∷ 5 ∷ 6 ∷ 7 ∷ 8 ∷ 9 ∷ 10 ∷ 11 ∷ 12 ∷ []
 
 -- whether refusal n is among the faults and applies
 unfoldable pub applies : List Fault → ℕ → Bool

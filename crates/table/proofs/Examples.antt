@@ -10,7 +10,7 @@ use lib.ListN.{length, getD, List·getD-eq-default}
 use borrow.Author.Tests.{eqb-true, eq-eqb, ltb-true, not-false, not-true}
 use Rattle.xor.specs.Xor.{_⊕_, xors}
 use Rattle.xor.specs.Sets.{any, count}
-use Rattle.xor.proofs.Cases.{by-less, clash, and-left, and-right}
+use Rattle.xor.proofs.Cases.{by-less, clash, and-left, and-right, not-xor}
 use Rattle.xor.proofs.Sets.{any-none, any-some}
 use Rattle.bits.specs.Bit.{bit, lowest}
 use Rattle.elimination.specs.Solution.{syndrome}
@@ -22,7 +22,7 @@ use Rattle.codes.specs.Shape.{lastCode, listed, rows, columns, missing, disks, 
 use Rattle.codes.specs.Geometry.{isThere, cellThere, columnOf, liesAt, cellAt, cellOf, callersCell, place}
 use Rattle.codes.specs.Equations.{equation}
 use Rattle.codes.specs.Encoded.{parityCell, sumsCell, byteAt, sumOver, parityByte, isParity, Encoded, fails, brokenEquations}
-use Rattle.refusals.specs.Refusals.{order, applies, firstOf, refusal, shapeFaults, stripeFaults, writeFaults, cellsFaults}
+use Rattle.refusals.specs.Refusals.{Fault, order, applies, firstOf, refusal, shapeFaults, stripeFaults, writeFaults, cellsFaults}
 use Rattle.codes.specs.Holders.{holds}
 use Rattle.codes.specs.Depends.{WriteRight}
 use Rattle.codes.proofs.Shapes.{each-code}
@@ -42,11 +42,16 @@ use Rattle.bad.specs.Bad.{Replaceable, badNumber, Finding}
 use Rattle.decide.proofs.Determined.{columns-determined}
 use Rattle.rebuild.specs.Rebuild.{Decides, undetermined, restored, RebuildsCells}
 use Rattle.rebuild.proofs.Computed.{outcome, stops, stops-undetermined, passes-determined, fits, fits-restores, unfit-none}
-use Rattle.plan.specs.Plan.{diagonal, chosen, readsCell, cellsRead, byRule, isAccepted}
+use Rattle.plan.specs.declared.PlanAnswer.the-variants.{Plan}
+use Rattle.plan.specs.Plan.{diagonal, chosen, readsCell, columnReads, cellsRead, byRule, isAccepted}
+use Rattle.plan.specs.Plans.{PlansBy}
+use Rattle.plan.proofs.Planning.{plan-refused, plan-given}
+use Rattle.balance.specs.Balance.{offered, shifted, fits as fitting, shift, byBalance}
+use Rattle.balance.specs.Refusals.{balanceFaults}
 use Rattle.plan.specs.Refusals.{planFaults}
 use Rattle.spare.specs.Refusals.{spareFaults, runFaults}
 use Rattle.show.specs.Refusals.{showFaults}
-use Rattle.table.specs.Examples.{Claim, encoded, broken, written, rebuildRefused, rebuilt, found, planned, runRefused, Example, emptySpare, table, shelves, evenodds, Claims, Holds, AllHold}
+use Rattle.table.specs.Examples.{Claim, encoded, broken, written, rebuildRefused, rebuilt, found, planned, runRefused, balanced, balanceRefused, readFrom, Example, emptySpare, table, shelves, evenodds, balances, Claims, Holds, AllHold}
 
 -- the difference put alone and encoded, byte t of it in cell k
 differing : Shape → ℕ → List ℕ → List ℕ → ℕ → ℕ → ℕ
@@ -82,6 +87,12 @@ rightCells s stripe lost = eqb (refusal (cellsFaults s (length stripe) lost)) 0
 unlike : Shape → (ℕ → Bool) → List ℕ → List ℕ → Bool
 unlike s lost a b = any (cells s) (λ c. not (lost c) && any (s .cell) (λ t. not (eqb (byteAt s a c t) (byteAt s b c t))))
 
+-- whether a plan takes by diagonal the rows that a rule says and reads so many cells, where a call with these faults is not refused
+plansBy : Shape → ℕ → (ℕ → ℕ → Bool) → List Fault → ℕ → ℕ → Bool
+plansBy s k rule faults taken reads =
+    eqb (refusal faults) 0
+    && (ltb taken (2 ^ rows s) && (not (any (rows s) (λ i. xor (bit i taken) (rule (columnOf s k) i))) && eqb reads (cellsRead s (columnOf s k) taken)))
+
 claimed : Shape → List ℕ → Claim → Bool
 claimed s stripe encoded = not (any (equations s) (fails s stripe))
 claimed s stripe (broken n) = eqb (brokenEquations s stripe) n
@@ -93,9 +104,10 @@ claimed s stripe (rebuilt lost new) =
     rightCells s stripe lost
     && (not (stops (outcome s (named s lost))) && (eqb (length new) (stripeLength s) && (not (wide new) && (not (any (equations s) (fails s new)) && not (unlike s (named s lost) stripe new)))))
 claimed s stripe (found finding) = finds s stripe finding
-claimed s stripe (planned k taken reads) =
-    eqb (refusal (planFaults s k)) 0
-    && (ltb taken (2 ^ rows s) && (not (any (rows s) (λ i. xor (bit i taken) (byRule s (columnOf s k) i))) && eqb reads (cellsRead s (columnOf s k) taken)))
+claimed s stripe (planned k taken reads) = plansBy s k (byRule s) (planFaults s k) taken reads
+claimed s stripe (balanced k taken reads) = plansBy s k (byBalance s) (balanceFaults s k) taken reads
+claimed s stripe (balanceRefused k number) = not (eqb number 0) && eqb (refusal (balanceFaults s k)) number
+claimed s stripe (readFrom k plan column n) = eqb (columnReads s (columnOf s k) plan (columnOf s column)) n
 claimed s stripe (runRefused k plan number) = not (eqb number 0) && eqb (refusal (runFaults s (length stripe) (length (emptySpare s)) k plan 0)) number
 
 module _ (s : Shape) (stripe : List ℕ) (row column : ℕ) (bytes new : List ℕ) (n : ℕ) (h : claimed s stripe (written row column bytes new n) ≡ true) where
@@ -252,31 +264,19 @@ module _ (s : Shape) (stripe : List ℕ) (w : WellFormed s) (lost : List ℕ) wh
           };
         }) refl)
 
--- tests that differ nowhere are the same
-not-xor : (a b : Bool) → xor a b ≡ false → a ≡ b
-unfolding xor
-not-xor true true h = refl
-not-xor true false h = h
-not-xor false true h = sym h
-not-xor false false h = refl
-
-is-planned : (s : Shape) (stripe : List ℕ) (k taken reads : ℕ) → claimed s stripe (planned k taken reads) ≡ true → Claims s stripe (planned k taken reads)
-unfolding claimed
-is-planned s stripe k taken reads h = record {
-  number = sym (eqb-true (refusal (planFaults s k)) 0 (and-left (eqb (refusal (planFaults s k)) 0) later h));
-  given = λ z. record {
-    plan = record { rows = taken; reads = reads };
-    says = refl;
-    rule = record {
-      low = ltb-true taken (2 ^ rows s) (and-left (ltb taken (2 ^ rows s)) last (and-right (eqb (refusal (planFaults s k)) 0) later h));
-      rule = λ i l. not-xor (bit i taken) (byRule s (columnOf s k) i) (any-none (rows s) (λ j. xor (bit j taken) (byRule s (columnOf s k) j)) (not-true differ (and-left (not differ) (eqb reads (cellsRead s (columnOf s k) taken)) ends)) i l);
-    };
-    reads = eqb-true reads (cellsRead s (columnOf s k) taken) (and-right (not differ) (eqb reads (cellsRead s (columnOf s k) taken)) ends);
-  };
-}
+is-planned : (s : Shape) (k : ℕ) (rule : ℕ → ℕ → Bool) (faults : List Fault) (taken reads : ℕ) → plansBy s k rule faults taken reads ≡ true
+    → PlansBy s k rule faults (Plan (record { rows = taken; reads = reads }))
+unfolding plansBy
+is-planned s k rule faults taken reads h =
+    plan-given s k rule faults (columnOf s k) taken reads (eqb-true (refusal faults) 0 (and-left (eqb (refusal faults) 0) later h)) refl
+    (record {
+      low = ltb-true taken (2 ^ rows s) (and-left (ltb taken (2 ^ rows s)) last (and-right (eqb (refusal faults) 0) later h));
+      rule = λ i l. not-xor (bit i taken) (rule (columnOf s k) i) (any-none (rows s) (λ j. xor (bit j taken) (rule (columnOf s k) j)) (not-true differ (and-left (not differ) (eqb reads (cellsRead s (columnOf s k) taken)) ends)) i l);
+    })
+    (eqb-true reads (cellsRead s (columnOf s k) taken) (and-right (not differ) (eqb reads (cellsRead s (columnOf s k) taken)) ends))
   where
     differ : Bool
-    differ = any (rows s) (λ i. xor (bit i taken) (byRule s (columnOf s k) i))
+    differ = any (rows s) (λ i. xor (bit i taken) (rule (columnOf s k) i))
 
     last : Bool
     last = not differ && eqb reads (cellsRead s (columnOf s k) taken)
@@ -285,7 +285,7 @@ is-planned s stripe k taken reads h = record {
     later = ltb taken (2 ^ rows s) && last
 
     ends : last ≡ true
-    ends = and-right (ltb taken (2 ^ rows s)) last (and-right (eqb (refusal (planFaults s k)) 0) later h)
+    ends = and-right (ltb taken (2 ^ rows s)) last (and-right (eqb (refusal faults) 0) later h)
 
 claimed-so : (s : Shape) (stripe : List ℕ) (c : Claim) → refusal (stripeFaults s (length stripe)) ≡ 0 → claimed s stripe c ≡ true → Claims s stripe c
 unfolding claimed c
@@ -295,7 +295,12 @@ claimed-so s stripe (written row column bytes new n) right h = (sym (not-refused
 claimed-so s stripe (rebuildRefused lost number) right h = is-refused s stripe (accepted s (length stripe) right .0) lost number h
 claimed-so s stripe (rebuilt lost new) right h = is-rebuilt s stripe (accepted s (length stripe) right .0) lost new h
 claimed-so s stripe (found answer) right h = record { number = found-number s stripe answer h ∙ sym right; finding = λ z. is-found s (accepted s (length stripe) right .0) stripe answer h }
-claimed-so s stripe (planned k taken reads) right h = is-planned s stripe k taken reads h
+claimed-so s stripe (planned k taken reads) right h = is-planned s k (byRule s) (planFaults s k) taken reads h
+claimed-so s stripe (balanced k taken reads) right h = is-planned s k (byBalance s) (balanceFaults s k) taken reads h
+claimed-so s stripe (balanceRefused k number) right h =
+    plan-refused s k (byBalance s) (balanceFaults s k) number (sym (eqb-true (refusal (balanceFaults s k)) number (and-right (not (eqb number 0)) _ h)))
+    (λ e. clash (eq-eqb number 0 e) (not-true (eqb number 0) (and-left (not (eqb number 0)) _ h)))
+claimed-so s stripe (readFrom k plan column n) right h = eqb-true (columnReads s (columnOf s k) plan (columnOf s column)) n h
 claimed-so s stripe (runRefused k plan number) right h = (
   sym (eqb-true (refusal (runFaults s (length stripe) (length (emptySpare s)) k plan 0)) number (and-right (not (eqb number 0)) _ h)),
   (λ e. clash (eq-eqb number 0 e) (not-true (eqb number 0) (and-left (not (eqb number 0)) _ h))),
@@ -325,11 +330,11 @@ all-hold (e ∷ rows′) h =
     (row-holds e (and-left first (passes rows′) h), all-hold rows′ (and-right first (passes rows′) h))
 
 -- the test of every row, done once
-all-pass : (passes table ≡ true) × (passes shelves ≡ true) × (passes evenodds ≡ true)
-unfolding table shelves evenodds passes claimed rightCells unlike unwritten differing depending settled isParity writeFaults refusal firstOf order applies stripeFaults shapeFaults cellsFaults listed rows columns equations cells cellNumber stripeLength columnOf liesAt cellOf callersCell place equation parityCell sumsCell byteAt sumOver fails brokenEquations any count xors _⊕_ named run lowest holds xor finds replaces wide inColumns syndrome bit diagonal chosen readsCell cellsRead byRule isAccepted planFaults spareFaults runFaults missing disks existing isThere cellThere
-all-pass = (refl, refl, refl)
+all-pass : (passes table ≡ true) × (passes shelves ≡ true) × (passes evenodds ≡ true) × (passes balances ≡ true)
+unfolding table shelves evenodds balances passes claimed plansBy rightCells unlike unwritten differing depending settled isParity writeFaults refusal firstOf order applies stripeFaults shapeFaults cellsFaults listed rows columns equations cells cellNumber stripeLength columnOf liesAt cellOf callersCell place equation parityCell sumsCell byteAt sumOver fails brokenEquations any count xors _⊕_ named run lowest holds xor finds replaces wide inColumns syndrome bit diagonal chosen readsCell columnReads cellsRead byRule isAccepted planFaults offered shifted fitting shift byBalance balanceFaults spareFaults runFaults missing disks existing isThere cellThere
+all-pass = (refl, refl, refl, refl)
 
--- the theorem over document 01's table, and those over the tables of shelves with fewer disks and of EVENODD
+-- the theorem over document 01's table, and those over the tables of shelves with fewer disks, of EVENODD and of balanced plans
 pub examples-hold : AllHold table
 examples-hold = all-hold table (all-pass .0)
 
@@ -339,35 +344,40 @@ shelves-hold = all-hold shelves (all-pass .1)
 pub evenodds-hold : AllHold evenodds
 evenodds-hold = all-hold evenodds (all-pass .2)
 
--- plan, run and show of another code than RDP are refused for the code, and where a number of data columns is given for the number, whatever else they are told
+pub balances-hold : AllHold balances
+balances-hold = all-hold balances (all-pass .3)
+
+-- plan, balanced plan, run and show of another code than RDP are refused for the code, and where a number of data columns is given for the number, whatever else
+-- they are told
 module _ (p cell : ℕ) (prime : listed p ≡ true) where
   abbrev pub shaped : Width → ℕ → Shape
   shaped width code = record { code = code; p = p; cell = cell; width = width }
 
-  -- each of the three calls gives this number
+  -- each of the four calls gives this number
   pub record Give (s : Shape) (number : ℕ) : Type 0 where
     pub plans : (k : ℕ) → refusal (planFaults s k) ≡ number
+    pub balanced : (k : ℕ) → refusal (balanceFaults s k) ≡ number
     pub runs : (bytes spare k plan first : ℕ) → refusal (runFaults s bytes spare k plan first) ≡ number
     pub shows : (bytes spare k done row column : ℕ) → refusal (showFaults s bytes spare k done row column) ≡ number
 
-  given : (s : Shape) (number : ℕ) → ((k : ℕ) → refusal (planFaults s k) ≡ number) → ((bytes spare k plan first : ℕ) → refusal (runFaults s bytes spare k plan first) ≡ number)
+  given : (s : Shape) (number : ℕ) → ((k : ℕ) → refusal (planFaults s k) ≡ number) → ((k : ℕ) → refusal (balanceFaults s k) ≡ number) → ((bytes spare k plan first : ℕ) → refusal (runFaults s bytes spare k plan first) ≡ number)
       → ((bytes spare k done row column : ℕ) → refusal (showFaults s bytes spare k done row column) ≡ number) → Give s number
-  given s number a b c = record { plans = a; runs = b; shows = c }
+  given s number a b c d = record { plans = a; balanced = b; runs = c; shows = d }
 
   pub code-refused : (code : ℕ) → 1 < code → code ≤ lastCode → Give (shaped Full code) 3
-  unfolding planFaults spareFaults runFaults showFaults refusal firstOf order applies
+  unfolding planFaults balanceFaults missing spareFaults runFaults showFaults refusal firstOf order applies
   code-refused code lo hi =
       each-code (λ n. n ≢ 1 → Give (shaped Full n) 3) (λ n. absurd (n refl))
-      (λ n. given _ 3 (λ k. rw prime refl) (λ a b c d e. rw prime refl) (λ a b c d e f. rw prime refl))
-      (λ n. given _ 3 (λ k. rw prime refl) (λ a b c d e. rw prime refl) (λ a b c d e f. rw prime refl))
-      (λ n. given _ 3 (λ k. rw prime refl) (λ a b c d e. rw prime refl) (λ a b c d e f. rw prime refl))
+      (λ n. given _ 3 (λ k. rw prime refl) (λ k. rw prime refl) (λ a b c d e. rw prime refl) (λ a b c d e f. rw prime refl))
+      (λ n. given _ 3 (λ k. rw prime refl) (λ k. rw prime refl) (λ a b c d e. rw prime refl) (λ a b c d e f. rw prime refl))
+      (λ n. given _ 3 (λ k. rw prime refl) (λ k. rw prime refl) (λ a b c d e. rw prime refl) (λ a b c d e f. rw prime refl))
       code (omega arith) hi (λ e. omega arith)
 
   pub data-before-code : (m code : ℕ) → 1 < code → code ≤ lastCode → Give (shaped (Data m) code) 14
-  unfolding planFaults spareFaults runFaults showFaults refusal firstOf order applies
+  unfolding planFaults balanceFaults missing spareFaults runFaults showFaults refusal firstOf order applies
   data-before-code m code lo hi =
       each-code (λ n. n ≢ 1 → Give (shaped (Data m) n) 14) (λ n. absurd (n refl))
-      (λ n. given _ 14 (λ k. rw prime refl) (λ a b c d e. rw prime refl) (λ a b c d e f. rw prime refl))
-      (λ n. given _ 14 (λ k. rw prime refl) (λ a b c d e. rw prime refl) (λ a b c d e f. rw prime refl))
-      (λ n. given _ 14 (λ k. rw prime refl) (λ a b c d e. rw prime refl) (λ a b c d e f. rw prime refl))
+      (λ n. given _ 14 (λ k. rw prime refl) (λ k. rw prime refl) (λ a b c d e. rw prime refl) (λ a b c d e f. rw prime refl))
+      (λ n. given _ 14 (λ k. rw prime refl) (λ k. rw prime refl) (λ a b c d e. rw prime refl) (λ a b c d e f. rw prime refl))
+      (λ n. given _ 14 (λ k. rw prime refl) (λ k. rw prime refl) (λ a b c d e. rw prime refl) (λ a b c d e f. rw prime refl))
       code (omega arith) hi (λ e. omega arith)

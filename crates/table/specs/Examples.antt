@@ -1,13 +1,15 @@
--- The examples that document 01 marks P, as one table, and such of shelves with fewer disks and of EVENODD. Each row claims something in the words of the
--- contracts.
+-- The examples that document 01 marks P, as one table, and such of shelves with fewer disks, of EVENODD and of balanced plans. Each row claims something in the
+-- words of the contracts.
 use mathlib.Core.Path.{_≡_}
 use mathlib.Core.List.{List, [], _∷_, _++_}
 use Prim.Native.Nat.{ℕ, _*_}
 use lib.ListN.{length, replicate}
 use Rattle.codes.specs.declared.Shape.{Shape}
+use Rattle.codes.specs.declared.Width.{Width}
 use Rattle.codes.specs.declared.Width.the-variants.{Full, Data}
 use Rattle.codes.specs.declared.Counted.the-variants.{Count, Refused}
 use Rattle.codes.specs.Shape.{rows, cellNumber, stripeLength, WellFormed}
+use Rattle.codes.specs.Geometry.{columnOf}
 use Rattle.codes.specs.Encoded.{Encoded}
 use Rattle.stripe.specs.Broken.{Counts}
 use Rattle.stripe.specs.Write.{Writes}
@@ -15,8 +17,10 @@ use Rattle.rebuild.specs.Rebuild.{RebuildsCells}
 use Rattle.bad.specs.declared.BadColumn.{BadColumn}
 use Rattle.bad.specs.declared.BadColumn.the-variants.{Column, Unexplained}
 use Rattle.bad.specs.Bad.{Finds}
-use Rattle.plan.specs.declared.PlanAnswer.the-variants.{Plan}
+use Rattle.plan.specs.declared.PlanAnswer.the-variants.{Plan, Refused as PlanRefused}
+use Rattle.plan.specs.Plan.{columnReads}
 use Rattle.plan.specs.Plans.{Plans}
+use Rattle.balance.specs.Balances.{Balances}
 use Rattle.spare.specs.Run.{RunsByPlan}
 
 -- what a row claims of a stripe
@@ -35,6 +39,10 @@ pub data Claim : Type 0 where
   -- that the plan for column k takes these rows by diagonal, with so many reads; that a run for column k by a plan is refused so
   planned : (k rows reads : ℕ) → Claim
   runRefused : (k plan number : ℕ) → Claim
+  -- that the balanced plan for column k takes these rows by diagonal, with so many reads; that it is refused so; that a plan reads so many cells of a column
+  balanced : (k rows reads : ℕ) → Claim
+  balanceRefused : (k number : ℕ) → Claim
+  readFrom : (k plan column count : ℕ) → Claim
 
 -- a row: the number behind P or of a request, a stripe, and what is claimed of it
 pub record Example : Type 0 where
@@ -135,6 +143,37 @@ evenodds =
     ∷ record { number = 3; shape = small 4; claim = runRefused 0 0 3; stripe = evenoddRight }
     ∷ []
 
+-- RDP with p = 7, cells of one byte and so many data columns, and a stripe of zeros
+abbrev pub seven : Width → Claim → Example
+seven width claim = record { number = 4; shape = record { code = 1; p = 7; cell = 1; width = width }; claim = claim; stripe = replicate 48 0 }
+
+-- the same of balanced plans, for document 02, request 04: column 0 with its reads from each other column, by plan and by the balanced plan, and refusals
+unfoldable pub balances : List Example
+balances =
+    seven Full (balanced 0 22 27)
+    ∷ seven Full (readFrom 0 22 1 4)
+    ∷ seven Full (readFrom 0 22 2 4)
+    ∷ seven Full (readFrom 0 22 3 4)
+    ∷ seven Full (readFrom 0 22 4 4)
+    ∷ seven Full (readFrom 0 22 5 4)
+    ∷ seven Full (readFrom 0 22 6 4)
+    ∷ seven Full (readFrom 0 22 7 3)
+    ∷ seven Full (planned 0 7 27)
+    ∷ seven Full (readFrom 0 7 1 5)
+    ∷ seven Full (readFrom 0 7 2 4)
+    ∷ seven Full (readFrom 0 7 3 3)
+    ∷ seven Full (readFrom 0 7 4 3)
+    ∷ seven Full (readFrom 0 7 5 4)
+    ∷ seven Full (readFrom 0 7 6 5)
+    ∷ seven Full (readFrom 0 7 7 3)
+    ∷ seven Full (balanced 4 49 27)
+    ∷ seven Full (balanceRefused 7 6)
+    ∷ seven (Data 6) (balanced 0 22 27)
+    ∷ record { number = 4; shape = five; claim = balanceRefused 5 15; stripe = zeros }
+    ∷ record { number = 4; shape = shelf; claim = balanceRefused 0 14; stripe = onShelf 0x01 }
+    ∷ record { number = 4; shape = small 2; claim = balanceRefused 0 3; stripe = replicate 8 0 }
+    ∷ []
+
 -- a spare for a stripe's column
 abbrev pub emptySpare : Shape → List ℕ
 emptySpare s = replicate (rows s * s .cell) 0
@@ -148,6 +187,9 @@ Claims s stripe (rebuildRefused lost number) = RebuildsCells s lost stripe numbe
 Claims s stripe (rebuilt lost new) = RebuildsCells s lost stripe 0 new
 Claims s stripe (found finding) = Finds s stripe finding
 Claims s stripe (planned k taken reads) = Plans s k (Plan (record { rows = taken; reads = reads }))
+Claims s stripe (balanced k taken reads) = Balances s k (Plan (record { rows = taken; reads = reads }))
+Claims s stripe (balanceRefused k number) = Balances s k (PlanRefused number)
+Claims s stripe (readFrom k plan column count) = columnReads s (columnOf s k) plan (columnOf s column) ≡ count
 Claims s stripe (runRefused k plan number) = RunsByPlan s k plan 0 1 stripe (emptySpare s) (emptySpare s) (Refused number)
 
 -- a row holds: its stripe is well formed, and what is claimed of it is so

@@ -1,7 +1,7 @@
 -- Going by cases: on a test, on whether two numbers are equal, on the numbers below a bound.
 use mathlib.Core.Path.{_≡_, refl, sym, _∙_, subst}
 use mathlib.Core.Logic.{_≢_}
-use mathlib.Core.Bool.{Bool, true, false, _&&_, _||_, true≢false}
+use mathlib.Core.Bool.{Bool, true, false, _&&_, _||_, xor, true≢false}
 use Prim.Native.Nat.{ℕ, _≤_, _<_}
 use native.Mathlib.Decide.{ℕ-discrete, decLt}
 use native.Mathlib.Omega.{arith}
@@ -62,3 +62,11 @@ not-passed {b} h = by-test b (λ p. absurd (h p)) (λ p. p)
 -- tests that pass together are equal
 pub same-test : {a b : Bool} → (a ≡ true → b ≡ true) → (b ≡ true → a ≡ true) → a ≡ b
 same-test {a} there back = by-test a (λ p. p ∙ sym (there p)) (λ p. p ∙ sym (not-passed (λ q. clash (back q) p)))
+
+-- tests that differ nowhere are the same
+pub not-xor : (a b : Bool) → xor a b ≡ false → a ≡ b
+unfolding xor
+not-xor true true h = refl
+not-xor true false h = h
+not-xor false true h = sym h
+not-xor false false h = refl

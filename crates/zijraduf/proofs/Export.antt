@@ -9,9 +9,11 @@ use Rattle.stripe.proofs.OneAnswer.{broken-one, write-one}
 use Rattle.bad.specs.Bad.{Finds}
 use Rattle.bad.proofs.OneAnswer.{bad-one}
 use Rattle.plan.specs.Plans.{Plans}
+use Rattle.balance.specs.Balances.{Balances}
 use Rattle.spare.specs.Run.{RunsByPlan}
 use Rattle.show.specs.Show.{Shown}
 use Rattle.plan.proofs.Planning.{plan-one}
+use Rattle.balance.proofs.BalanceFacts.{balance-one}
 use Rattle.spare.proofs.SameReads.{run-one}
 use Rattle.show.proofs.ShowFacts.{shown-one}
 use Rattle.zijraduf.specs.declared.ShapeNumbers.{ShapeNumbers}
@@ -43,6 +45,9 @@ exported-bad-one s stripe a b ha hb = same-numbers _ _ _ a b ha hb (bad-one s st
 
 pub exported-plan-one : (s : Shape) (k : ℕ) (a b : Planned) → InNumbers planInNumbers (Plans s k) a → InNumbers planInNumbers (Plans s k) b → a ≡ b
 exported-plan-one s k a b ha hb = same-numbers _ _ _ a b ha hb (plan-one s k (ha .given) (hb .given) (ha .allowed) (hb .allowed))
+
+pub exported-balance-one : (s : Shape) (k : ℕ) (a b : Planned) → InNumbers planInNumbers (Balances s k) a → InNumbers planInNumbers (Balances s k) b → a ≡ b
+exported-balance-one s k a b ha hb = same-numbers _ _ _ a b ha hb (balance-one s k (ha .given) (hb .given) (ha .allowed) (hb .allowed))
 
 pub exported-run-one : (s : Shape) (k plan first budget : ℕ) (stripe old : List ℕ) (a b : Count) (x y : List ℕ)
     → InNumbers countInNumbers (RunsByPlan s k plan first budget stripe old x) a → InNumbers countInNumbers (RunsByPlan s k plan first budget stripe old y) b → (a ≡ b) × (x ≡ y)

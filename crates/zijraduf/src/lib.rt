@@ -6,6 +6,7 @@ ghost use Rattle.stripe.specs.Broken.{Counts};
 ghost use Rattle.stripe.specs.Write.{Writes};
 ghost use Rattle.bad.specs.Bad.{Finds};
 ghost use Rattle.plan.specs.Plans.{Plans};
+ghost use Rattle.balance.specs.Balances.{Balances};
 ghost use Rattle.spare.specs.Run.{RunsByPlan};
 ghost use Rattle.show.specs.Show.{Shown};
 ghost use Rattle.jobs.specs.Answer.{AnswersInto};
@@ -90,6 +91,24 @@ fn in_numbers(answer: Counted) -> Count
     match answer {
         Counted::Count(count) => Count { refusal: 0, count },
         Counted::Refused(refusal) => Count { refusal, count: 0 },
+    }
+}
+
+// A plan or a refusal in three numbers.
+fn plan_in_numbers(answer: PlanAnswer) -> Planned
+    ensures { λ r. ⌜ r ≡ planInNumbers answer ⌝ }
+{
+    match answer {
+        PlanAnswer::Plan(plan) => Planned {
+            refusal: 0,
+            rows: plan.rows,
+            reads: plan.reads,
+        },
+        PlanAnswer::Refused(refusal) => Planned {
+            refusal,
+            rows: 0,
+            reads: 0,
+        },
     }
 }
 
@@ -183,18 +202,15 @@ pub extern "C" fn zijraduf_bad_column(shape: ShapeNumbers, stripe: &[u8]) -> Fou
 pub extern "C" fn zijraduf_plan(shape: ShapeNumbers, k: usize) -> Planned
     ensures { λ r. ⌜ Told shape (λ s. InNumbers planInNumbers (Plans s k) r) ⌝ }
 {
-    match spare::plan(shape_from(shape), k) {
-        PlanAnswer::Plan(plan) => Planned {
-            refusal: 0,
-            rows: plan.rows,
-            reads: plan.reads,
-        },
-        PlanAnswer::Refused(refusal) => Planned {
-            refusal,
-            rows: 0,
-            reads: 0,
-        },
-    }
+    plan_in_numbers(spare::plan(shape_from(shape), k))
+}
+
+// Balanced plan.
+#[no_mangle]
+pub extern "C" fn zijraduf_balanced_plan(shape: ShapeNumbers, k: usize) -> Planned
+    ensures { λ r. ⌜ Told shape (λ s. InNumbers planInNumbers (Balances s k) r) ⌝ }
+{
+    plan_in_numbers(balance::balanced_plan(shape_from(shape), k))
 }
 
 // Run by plan.

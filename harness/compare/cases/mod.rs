@@ -1,6 +1,7 @@
 //! The cases: which calls are compared, and what is lent to them.
 
 pub mod all;
+pub mod balance;
 pub mod case;
 pub mod encodes;
 pub mod fields;

@@ -6,6 +6,7 @@ use crate::cases::fills::{Fill, EXTENTS, FILLS};
 use crate::cases::lists::{Base, Lost, Odd};
 use crate::cases::loans::{BYTES, SPARE, STRIPE};
 use crate::cases::shapes::{cell_count, edge_codes, NO_CODE};
+use crate::second::balance::BALANCED_PLAN;
 use crate::second::call::{Call, Operation, Shape};
 use crate::second::encode::{BROKEN, ENCODE};
 use crate::second::rebuild::{BAD_COLUMN, REBUILD_CELLS, REBUILD_COLUMNS};
@@ -13,8 +14,8 @@ use crate::second::shapes::{CODES, PRIMES};
 use crate::second::spare::{PLAN, RUN, SHOW};
 use crate::second::write::WRITE;
 
-const EACH: [Operation; 9] =
-    [ENCODE, BROKEN, WRITE, REBUILD_CELLS, REBUILD_COLUMNS, BAD_COLUMN, PLAN, RUN, SHOW];
+const EACH: [Operation; 10] =
+    [ENCODE, BROKEN, WRITE, REBUILD_CELLS, REBUILD_COLUMNS, BAD_COLUMN, PLAN, RUN, SHOW, BALANCED_PLAN];
 
 /// Up to here every cell of every shelf is tried, above some.
 const SMALL: u64 = 7;
@@ -285,7 +286,7 @@ impl Cases<'_> {
     }
 
     /// Good and bad code, p and cell size beside a good and a bad m: the first refusal of
-    /// 1, 2, 14, 3, 4 and 5 must come.
+    /// 1, 2, 14, 3, 15, 4 and 5 must come.
     fn bad_beside(&mut self) {
         for code in edge_codes() {
             for p in [0, 4, 5, 32, u64::MAX] {

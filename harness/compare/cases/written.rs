@@ -6,6 +6,7 @@ use crate::cases::fields::Sent;
 use crate::cases::fills::Fill;
 use crate::cases::loans::LOST;
 use crate::cases::shapes::NO_CODE;
+use crate::second::balance::BALANCED_PLAN;
 use crate::second::call::{Answer, Call, Operation, Shape, CLEAN, COLUMN, UNEXPLAINED};
 use crate::second::encode::{BROKEN, ENCODE};
 use crate::second::job::JOB;
@@ -222,6 +223,56 @@ pub static WRITTEN: &[Written] = &[
     still(ENCODE, 4, 3, &P3, Answer::refused(5)),
     still(ENCODE, NO_CODE, 3, &EVENODD, Answer::refused(1)),
     still(PLAN, NO_CODE, 3, &[], Answer::refused(1)),
+    // Balanced plans: all of p = 3 and p = 7, some of others; and what runs by them do.
+    balanced(3, 0, 2, 3),
+    balanced(3, 1, 1, 3),
+    balanced(3, 2, 2, 3),
+    balanced(7, 0, 22, 27),
+    balanced(7, 1, 22, 27),
+    balanced(7, 2, 44, 27),
+    balanced(7, 3, 22, 27),
+    balanced(7, 4, 49, 27),
+    balanced(7, 5, 44, 27),
+    balanced(7, 6, 22, 27),
+    balanced(11, 0, 570, 75),
+    balanced(11, 1, 233, 75),
+    balanced(31, 0, 0x121D_47B6, 675),
+    balanced(31, 22, 0x1D47_B624, 675),
+    balanced_run(0, 2, &[0x01, 0x04]),
+    balanced_run(1, 1, &[0x02, 0x08]),
+    balanced_run(2, 2, &[0x03, 0x0C]),
+    // All data columns as an m, and an m that isn't given; and the first refusal that comes.
+    told(1, 6, balanced(7, 4, 49, 27)),
+    told(u64::MAX, 6, balanced(7, 4, 49, 27)),
+    told(0, 5, balanced(7, 4, 49, 27)),
+    unbalanced(NO_CODE, 9, 7, 1),
+    unbalanced(1, 9, 7, 2),
+    unbalanced(2, 7, 0, 3),
+    unbalanced(3, 5, 5, 3),
+    unbalanced(4, 7, 7, 3),
+    unbalanced(1, 5, 0, 15),
+    unbalanced(1, 5, 5, 15),
+    unbalanced(1, 13, 0, 15),
+    unbalanced(1, 17, 17, 15),
+    unbalanced(1, 29, 0, 15),
+    unbalanced(1, 3, 3, 6),
+    unbalanced(1, 7, 7, 6),
+    unbalanced(1, 7, 8, 6),
+    unbalanced(1, 31, 31, 6),
+    told(1, 0, unbalanced(1, 9, 0, 2)),
+    told(1, 6, unbalanced(2, 7, 0, 14)),
+    told(1, 5, unbalanced(1, 7, 0, 14)),
+    told(1, 3, unbalanced(1, 7, 7, 14)),
+    told(1, 7, unbalanced(1, 7, 0, 14)),
+    told(1, 0, unbalanced(1, 7, 0, 14)),
+    told(1, 3, unbalanced(1, 5, 0, 14)),
+    told(1, 4, unbalanced(1, 5, 5, 15)),
+    told(1, 6, unbalanced(1, 7, 7, 6)),
+    sized(0, unbalanced(2, 7, 0, 3)),
+    sized(0, unbalanced(1, 5, 0, 15)),
+    sized(0, unbalanced(1, 7, 7, 4)),
+    sized(4097, unbalanced(1, 7, 0, 4)),
+    sized(4096, balanced(7, 0, 22, 27)),
     refused(ENCODE, 9, 1, 2),
     refused(ENCODE, 2, 1, 2),
     refused(ENCODE, 33, 1, 2),
@@ -335,6 +386,30 @@ const fn planned(k: u64, rows: u64, reads: u64) -> Written {
 
 const fn refused_column(k: u64) -> Written {
     Written { answer: Answer::refused(6), ..planned(k, 0, 0) }
+}
+
+/// A balanced plan for column k of RDP.
+const fn balanced(p: u64, k: u64, rows: u64, reads: u64) -> Written {
+    let written = still(BALANCED_PLAN, 1, p, &[], Answer::planned(rows, reads));
+    Written { call: Call { k, ..written.call }, ..written }
+}
+
+const fn unbalanced(code: u64, p: u64, k: u64, refusal: u64) -> Written {
+    let written = still(BALANCED_PLAN, code, p, &[], Answer::refused(refusal));
+    Written { call: Call { k, ..written.call }, ..written }
+}
+
+/// A run of both rows of column k of RDP for p = 3.
+const fn balanced_run(k: u64, plan: u64, column: &'static [u8]) -> Written {
+    let written = still(RUN, 1, 3, &P1, Answer::counted(2));
+    let call = Call { k, plan, budget: 2, spare_length: 2, ..written.call };
+    Written { call, spare: &[0xEE; 2], spare_after: column, ..written }
+}
+
+/// With cells of that size.
+const fn sized(cell: u64, written: Written) -> Written {
+    let shape = Shape { cell, ..written.call.shape };
+    Written { call: Call { shape, ..written.call }, ..written }
 }
 
 /// With an m told so.

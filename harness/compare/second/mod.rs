@@ -2,6 +2,7 @@
 //! slow, and made without a look at the library. It knows calls, lent bytes and
 //! answers, and nothing of the cases.
 
+pub mod balance;
 pub mod call;
 pub mod encode;
 pub mod job;

@@ -34,7 +34,7 @@ impl Second {
     }
 
     /// The shelf of a call's code, p and m, or the first of the refusals 1, 2 and 14.
-    fn known(&self, shape: Shape) -> Result<&Shelf, u64> {
+    pub fn known(&self, shape: Shape) -> Result<&Shelf, u64> {
         refuse_if(!CODES.contains(&shape.code), 1)?;
         refuse_if(!PRIMES.contains(&shape.p), 2)?;
         refuse_if(shape.m().is_some_and(|m| shape.code != 1 || m < 1 || m > shape.p - 1), 14)?;
@@ -59,7 +59,7 @@ impl Second {
     }
 }
 
-fn cell_size(shape: Shape) -> Result<(), u64> {
+pub fn cell_size(shape: Shape) -> Result<(), u64> {
     refuse_if(!(1..=4096).contains(&shape.cell), 4)
 }
 

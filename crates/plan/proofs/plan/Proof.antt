@@ -3,6 +3,7 @@ use mathlib.Core.Path.{_≡_, sym, _∙_, subst}
 use Prim.Native.Nat.{_<_}
 use Rattle.codes.specs.Shape.{disks, WellFormed}
 use Rattle.refusals.specs.Refusals.{refusal}
+use Rattle.plan.specs.Plan.{byRule}
 use Rattle.plan.specs.Refusals.{planFaults}
 use Rattle.plan.specs.Right.{RdpColumn}
 use Rattle.plan.proofs.Refused.{plan-accepted}
@@ -17,7 +18,7 @@ plan-refusal-requires : tie.Need-plan-refusal-requires
 plan-refusal-requires c κs = search needs
 
 returns : tie.Need-returns
-returns c = plan-refused (c .before .before .args .shape) (c .before .before .args .k) _ (c .before .plan-refusal .ensures) (c .if1 .taken)
+returns c = plan-refused (c .before .before .args .shape) (c .before .before .args .k) _ _ _ (c .before .plan-refusal .ensures) (c .if1 .taken)
 
 -- past the test the call is not refused
 none : (c : tie.Else1) → refusal (planFaults (c .before .before .args .shape) (c .before .before .args .k)) ≡ 0
@@ -44,7 +45,7 @@ returns-2 : tie.Need-returns-2
 returns-2 c =
     let b = c .before .before .before in
     let a = b .before .before .args in
-    plan-given (a .shape) (a .k) _ _ _ (none b) (c .before .before .column-of .ensures) (c .before .rule-rows .ensures) (c .reads-by .ensures)
+    plan-given (a .shape) (a .k) (byRule (a .shape)) _ _ _ _ (none b) (c .before .before .column-of .ensures) (c .before .rule-rows .ensures) (c .reads-by .ensures)
 
 pub plan-spec : {M : Type 1} → statement M
 plan-spec =

@@ -1,0 +1,4 @@
+pub mod Balance
+pub mod Refusals
+pub mod Balances
+pub mod Table
