@@ -4,8 +4,8 @@
  * keeps no state, allocates nothing and takes no locks. A call that writes
  * (encode, write and the rebuilds the stripe, run the spare, job the output) needs
  * that buffer to itself while it runs; calls that only read may share one (the
- * proofs speak of one call at a time). Stack: less than 40 KiB, zijraduf_job less
- * than 88 KiB (measured).
+ * proofs speak of one call at a time). Stack: less than 41 KiB, zijraduf_job less
+ * than 89 KiB (measured).
  *
  * A stripe is rows x columns cells of `cell` bytes each, by the code:
  *

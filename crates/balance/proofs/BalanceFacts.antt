@@ -2,17 +2,16 @@
 -- the others, and of all columns together no more than any accepted plan. Each fact is of every plan by the rule.
 use mathlib.Core.Path.{_≡_, refl, sym, ap, _∙_, subst}
 use mathlib.Core.Logic.{_≢_}
-use mathlib.Core.Bool.{Bool, true, false, not, _&&_, _||_}
-use Prim.Native.Nat.{ℕ, _+_, _-_, _*_, _/_, _%_, _^_, _≤_, _<_}
+use mathlib.Core.Bool.{true}
+use Prim.Native.Nat.{ℕ, _+_, _-_, _*_, _/_, _^_, _≤_, _<_}
 use native.Mathlib.Nat.{mul-assoc, mul-le-mul, mul-le-mul-left, lt-of-le-of-lt}
 use native.Mathlib.Omega.{arith}
 use lib.Count.{ones}
-use lib.Dec.{eqb, leb, ltb}
 use Rattle.xor.specs.Sets.{count}
 use Rattle.bits.specs.Bit.{bit}
 use Rattle.bits.proofs.Bits.{ones-bits}
 use Rattle.codes.specs.declared.Shape.{Shape}
-use Rattle.codes.specs.Shape.{rows, columns, disks, missing, WellFormed}
+use Rattle.codes.specs.Shape.{rows}
 use Rattle.refusals.specs.Refusals.{refusal}
 use Rattle.codes.proofs.Geometry.{there-all, column-all}
 use Rattle.codes.proofs.Lines.{rdp-columns}
@@ -21,17 +20,17 @@ use Rattle.plan.specs.declared.PlanAnswer.the-variants.{Plan}
 use Rattle.plan.specs.Plan.{columnReads, cellsRead, TakesRows, isAccepted}
 use Rattle.plan.specs.Right.{RdpColumn}
 use Rattle.plan.proofs.Column.{last-row}
-use Rattle.plan.proofs.Accepted.{plan-low}
-use Rattle.plan.proofs.ByColumns.{surviving-reads}
+use Rattle.plan.proofs.Accepted.{accepted-alike, plan-low}
+use Rattle.plan.proofs.ByColumns.{pairs, surviving-reads}
 use Rattle.plan.proofs.PlanReads.{last-surviving}
 use Rattle.plan.proofs.PlanFacts.{even-rows, half-reads, reads-least}
 use Rattle.plan.proofs.Planning.{same-rows, plan-given, plans-one}
 use Rattle.balance.specs.Balance.{fits, shift, byBalance}
+use Rattle.balance.specs.Right.{Balanceable}
 use Rattle.balance.specs.Table.{planAt}
 use Rattle.balance.specs.Refusals.{balanceFaults}
 use Rattle.balance.specs.Balances.{Balances}
-use Rattle.balance.proofs.Tested.{rdpAt, pairs, Sound, plan-sound}
-use Rattle.balance.proofs.Refused.{Balanceable}
+use Rattle.balance.proofs.Tested.{rdpAt, Sound, plan-sound}
 
 module _ (s : Shape) (k : ℕ) (b : Balanceable s k) where
   -- it is a column of RDP
@@ -45,7 +44,6 @@ module _ (s : Shape) (k : ℕ) (b : Balanceable s k) where
   tall = last-row s k column-of
 
   rows-at : rows s ≡ rows (rdpAt (s .p))
-  unfolding rows
   rows-at = unfold rows in sym tall
 
   -- there is a shift by which the squares hold neither p-1 nor p-1-k
@@ -54,13 +52,7 @@ module _ (s : Shape) (k : ℕ) (b : Balanceable s k) where
 
   -- the plan of the table is accepted
   table-accepted : isAccepted s k (planAt (s .p) k) ≡ true
-  unfolding isAccepted
-  table-accepted =
-      ap (λ (n : ℕ). ltb plan (2 ^ n) && ((not (leb 1 k && leb k (s .p - 1)) || not (bit (s .p - 1 - k) plan)) && (not (eqb k (s .p)) || eqb plan (2 ^ n - 1)))) rows-at
-      ∙ sound .accepted
-    where
-      plan : ℕ
-      plan = planAt (s .p) k
+  table-accepted = accepted-alike s (rdpAt (s .p)) k (planAt (s .p) k) refl rows-at ∙ sound .accepted
 
   -- and goes by the rule
   pub table-takes : TakesRows s (byBalance s k) (planAt (s .p) k)
@@ -88,9 +80,9 @@ module _ (s : Shape) (k : ℕ) (b : Balanceable s k) where
     pub balanced-surviving : (j : ℕ) → j < s .p → j ≢ k → columnReads s k plan j ≡ (3 * s .p - 5) / 4
     balanced-surviving j l other =
         surviving-reads s k plan column-of balanced-accepted j (omega (arith, l, rdp-columns s (b .formed) (b .rdp))) (there-all s (b .full) j) other l
-        ∙ ap (λ (n : ℕ). s .p - 1 - ones plan + count n (λ i. bit ((i + j + (s .p - k)) % s .p) plan && bit i plan)) (sym tall)
-        ∙ ap (λ (n : ℕ). n + pairs (s .p) k plan j) (let other-half : s .p - 1 - ones plan ≡ (s .p - 1) / 2 = omega (arith, balanced-ones, even-rows s (b .formed)) in other-half)
-        ∙ subst (λ (x : ℕ). (s .p - 1) / 2 + pairs (s .p) k x j ≡ (3 * s .p - 5) / 4) of-table (sound .even j l other)
+        ∙ ap (λ (n : ℕ). s .p - 1 - ones plan + pairs n (s .p) k plan j) (sym tall)
+        ∙ ap (λ (n : ℕ). n + pairs (s .p - 1) (s .p) k plan j) (let other-half : s .p - 1 - ones plan ≡ (s .p - 1) / 2 = omega (arith, balanced-ones, even-rows s (b .formed)) in other-half)
+        ∙ subst (λ (x : ℕ). (s .p - 1) / 2 + pairs (s .p - 1) (s .p) k x j ≡ (3 * s .p - 5) / 4) of-table (sound .even j l other)
 
     -- of column p it reads (p-1)/2 cells
     pub balanced-last : columnReads s k plan (s .p) ≡ (s .p - 1) / 2
@@ -106,7 +98,7 @@ module _ (s : Shape) (k : ℕ) (b : Balanceable s k) where
 
 -- ---- the answer
 
--- so many reads are few
+-- the product fits its type
 pub few : {p : ℕ} → p ≤ 31 → 3 * (p - 1) * (p - 1) < 2 ^ 64
 few {p} l = let most : p - 1 ≤ 30 = omega arith in lt-of-le-of-lt (mul-le-mul (mul-le-mul-left 3 most) most) (omega arith)
 

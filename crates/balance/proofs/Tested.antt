@@ -1,8 +1,8 @@
 -- The rule of the table, proved of all its plans by one test that is computed.
-use mathlib.Core.Path.{_≡_, refl, sym, ap}
+use mathlib.Core.Path.{_≡_, refl, ap}
 use mathlib.Core.Logic.{_≢_}
 use mathlib.Core.Bool.{Bool, true, false, not, _&&_, xor}
-use Prim.Native.Nat.{ℕ, _+_, _-_, _*_, _/_, _%_, _<_}
+use Prim.Native.Nat.{ℕ, _+_, _-_, _*_, _/_, _<_}
 use native.Mathlib.Omega.{arith}
 use lib.Dec.{eqb}
 use borrow.Author.Tests.{eqb-true, ne-eqb, not-true, not-false}
@@ -14,6 +14,7 @@ use Rattle.codes.specs.declared.Shape.{Shape}
 use Rattle.codes.specs.declared.Width.the-variants.{Full}
 use Rattle.codes.specs.Shape.{rows}
 use Rattle.plan.specs.Plan.{isAccepted}
+use Rattle.plan.proofs.ByColumns.{pairs}
 use Rattle.balance.specs.Balance.{offered, shifted, fits, shift}
 use Rattle.balance.specs.Table.{plans, plansBefore, planAt}
 use Rattle.balance.proofs.Offered.{offered-bounds}
@@ -34,17 +35,13 @@ five a b c d e h =
 abbrev pub rdpAt : ℕ → Shape
 rdpAt p = record { code = 1; p = p; cell = 1; width = Full }
 
--- how many rows i there are with i and i+j-k mod p both by diagonal
-abbrev pub pairs : ℕ → ℕ → ℕ → ℕ → ℕ
-pairs p k plan j = count (p - 1) (λ i. bit ((i + j + (p - k)) % p) plan && bit i plan)
-
 -- some row is not as the rule says, where the squares are shifted by s
 offRule : ℕ → ℕ → ℕ → Bool
 offRule p plan s = any (p - 1) (λ i. xor (bit i plan) (shifted p s i))
 
 -- some surviving column below p is not read (3p-5)/4 times
 uneven : ℕ → ℕ → ℕ → Bool
-uneven p k plan = any p (λ j. not (eqb j k) && not (eqb ((p - 1) / 2 + pairs p k plan j) ((3 * p - 5) / 4)))
+uneven p k plan = any p (λ j. not (eqb j k) && not (eqb ((p - 1) / 2 + pairs (p - 1) p k plan j) ((3 * p - 5) / 4)))
 
 -- the test of one plan
 passes : ℕ → ℕ → ℕ → Bool
@@ -64,7 +61,7 @@ table-passes = refl
 pub record Sound (p k plan : ℕ) : Type 0 where
   pub half : count (p - 1) (λ i. bit i plan) ≡ (p - 1) / 2
   pub accepted : isAccepted (rdpAt p) k plan ≡ true
-  pub even : (j : ℕ) → j < p → j ≢ k → (p - 1) / 2 + pairs p k plan j ≡ (3 * p - 5) / 4
+  pub even : (j : ℕ) → j < p → j ≢ k → (p - 1) / 2 + pairs (p - 1) p k plan j ≡ (3 * p - 5) / 4
   pub fitting : fits p k (shift p k) ≡ true
   pub ruled : (i : ℕ) → i < p - 1 → bit i plan ≡ shifted p (shift p k) i
 
@@ -76,8 +73,8 @@ sound p k plan h =
       half = eqb-true (count (p - 1) (λ i. bit i plan)) ((p - 1) / 2) (parts .0);
       accepted = parts .1;
       even = λ j l n.
-          eqb-true ((p - 1) / 2 + pairs p k plan j) ((3 * p - 5) / 4)
-          (not-false (eqb ((p - 1) / 2 + pairs p k plan j) ((3 * p - 5) / 4)) (and-second (not (eqb j k)) (odd j) (ap not (ne-eqb j k n)) (any-none p (λ j. not (eqb j k) && odd j) (not-true (uneven p k plan) (parts .2)) j l)));
+          eqb-true ((p - 1) / 2 + pairs (p - 1) p k plan j) ((3 * p - 5) / 4)
+          (not-false (eqb ((p - 1) / 2 + pairs (p - 1) p k plan j) ((3 * p - 5) / 4)) (and-second (not (eqb j k)) (odd j) (ap not (ne-eqb j k n)) (any-none p (λ j. not (eqb j k) && odd j) (not-true (uneven p k plan) (parts .2)) j l)));
       fitting = parts .3;
       ruled = λ i l.
           not-xor (bit i plan) (shifted p (shift p k) i)
@@ -85,7 +82,7 @@ sound p k plan h =
     }
   where
     odd : ℕ → Bool
-    odd j = not (eqb ((p - 1) / 2 + pairs p k plan j) ((3 * p - 5) / 4))
+    odd j = not (eqb ((p - 1) / 2 + pairs (p - 1) p k plan j) ((3 * p - 5) / 4))
 
 -- so each plan of the table is sound
 pub plan-sound : (p k : ℕ) → offered p ≡ true → k < p → Sound p k (planAt p k)

@@ -18,7 +18,7 @@ shifted p s i = any p (λ a. ltb 0 a && eqb ((a * a + s) % p) i)
 unfoldable pub fits : ℕ → ℕ → ℕ → Bool
 fits p k s = not (shifted p s (p - 1)) && not (shifted p s (p - 1 - k))
 
--- the smallest s from 0 on for which it does
+-- the shift for column k: the smallest s from 0 on for which it holds neither
 unfoldable pub shift : ℕ → ℕ → ℕ
 shift p k = lowest p (fits p k)
 

@@ -1,4 +1,5 @@
 pub mod Balance
+pub mod Right
 pub mod Refusals
 pub mod Balances
 pub mod Table

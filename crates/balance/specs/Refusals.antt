@@ -2,16 +2,10 @@
 use mathlib.Core.List.{List, [], _∷_, _++_}
 use mathlib.Core.Bool.{not}
 use Prim.Native.Nat.{ℕ}
-use lib.Dec.{ltb}
 use Rattle.codes.specs.declared.Shape.{Shape}
-use Rattle.codes.specs.Shape.{missing}
-use Rattle.refusals.specs.Refusals.{Fault, fault, codeFaults, sizeFaults, outside}
+use Rattle.refusals.specs.Refusals.{Fault, fault, codeFaults, notFull, sizeFaults, outside}
 use Rattle.plan.specs.Refusals.{notRdp}
 use Rattle.balance.specs.Balance.{offered}
-
--- some data column doesn't exist
-abbrev pub notFull : Shape → Fault
-notFull s = fault 14 (ltb 0 (missing s))
 
 -- another prime than those of balanced plans
 abbrev pub notOffered : Shape → Fault

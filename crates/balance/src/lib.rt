@@ -1,16 +1,11 @@
 // RDP with one lost column: the balanced plan, by which each surviving column below p is read as often as the others.
 // Columns are numbered as they lie in the stripe; where all exist, as they have to here, the equations number them alike.
 ghost use mathlib.Core.Path.{_≡_};
-ghost use mathlib.Core.Bool.{true};
-ghost use lib.Dec.{ltb};
-ghost use Prim.Native.Nat.{_≤_};
-ghost use Rattle.codes.specs.Shape.{listed, missing};
 ghost use Rattle.refusals.specs.Refusals.{refusal};
 ghost use Rattle.balance.specs.Balance.{offered};
 ghost use Rattle.balance.specs.Refusals.{balanceFaults};
 ghost use Rattle.balance.specs.Balances.{Balances};
 use codes::Shape;
-use codes::Width;
 use plan::PlanAnswer;
 use plan::ReadPlan;
 
@@ -26,18 +21,6 @@ fn is_offered(p: usize) -> bool
     }
 }
 
-// Whether some data column doesn't exist.
-fn is_short(shape: Shape) -> bool
-    requires { ⌜ listed (shape .p) ≡ true ⌝ }
-    ensures { λ r. ⌜ r ≡ ltb 0 (missing shape) ⌝ }
-{
-    let width = shape.width;
-    let Width::Data(m) = width else {
-        return false;
-    };
-    m < shape.p - 1
-}
-
 // The refusal of a balanced plan for column k: the first number that applies, or 0.
 fn balance_refusal(shape: Shape, k: usize) -> usize
     ensures { λ r. ⌜ r ≡ refusal (balanceFaults shape k) ⌝ }
@@ -49,7 +32,7 @@ fn balance_refusal(shape: Shape, k: usize) -> usize
     if wrong != 0 {
         return wrong;
     }
-    if is_short(shape) {
+    if refusals::is_short(shape) {
         return 14;
     }
     if other_code {

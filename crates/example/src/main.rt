@@ -92,7 +92,7 @@ fn balanced() {
     };
     match balance::balanced_plan(shape, 0) {
         PlanAnswer::Plan(plan) => {
-            tell(b"rows of the balanced plan", plan.rows as usize);
+            tell(b"mask of the balanced plan", plan.rows as usize);
             tell(b"cells that it reads", plan.reads);
         }
         PlanAnswer::Refused(number) => tell(b"balanced plan refused", number),

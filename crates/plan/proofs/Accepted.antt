@@ -49,6 +49,16 @@ module _ (s : Shape) (k plan : ℕ) (of : RdpColumn s k) where
           ∙ rw (sym bound-is, lt-ltb plan bound l, le-leb 1 k (omega arith), le-leb k (s .p - 1) (omega (arith, last-column s k of)), ne-eqb k (s .p) last)
           (sym (and-true (not (bit (s .p - 1 - k) plan))))
 
+-- ---- what acceptance depends on
+
+-- stripes of one prime that have as many rows accept the same plans
+pub accepted-alike : (s t : Shape) (k plan : ℕ) → s .p ≡ t .p → rows s ≡ rows t → isAccepted s k plan ≡ isAccepted t k plan
+unfolding isAccepted
+accepted-alike s t k plan same tall i =
+    ltb plan (2 ^ tall i)
+    && ((not (leb 1 k && leb k (same i - 1)) || not (bit (same i - 1 - k) plan))
+    && (not (eqb k (same i)) || eqb plan (2 ^ tall i - 1)))
+
 -- ---- what an accepted plan has
 
 -- three tests that all pass

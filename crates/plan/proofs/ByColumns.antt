@@ -31,6 +31,10 @@ use Rattle.plan.proofs.Turned.{bit-turned}
 abbrev pub firstReads : Shape → ℕ → ℕ → ℕ → ℕ
 firstReads s k plan n = sumOf n (λ d. columnReads s k plan (columnOf s d))
 
+-- of n rows the rows i with i and i+j-k mod p both by diagonal; p is added so that j-k is no less than 0
+abbrev pub pairs : ℕ → ℕ → ℕ → ℕ → ℕ → ℕ
+pairs n p k plan j = count n (λ i. bit ((i + j + (p - k)) % p) plan && bit i plan)
+
 -- ---- the columns that exist
 
 module _ (s : Shape) (w : WellFormed s) where
@@ -109,9 +113,9 @@ module _ (s : Shape) (k plan : ℕ) (of : RdpColumn s k) (accepted : isAccepted 
   taken-most = omega (arith, ones-le (rows s) plan (plan-low s k plan of accepted), last-row s k of)
 
   -- of a surviving column j below p it reads p-1-x cells, where x rows are taken by diagonal, and one more for each i with i and i+j-k mod p both
-  -- by diagonal; p is added so that j-k is no less than 0
+  -- by diagonal
   pub surviving-reads : (j : ℕ) → j < columns s → isThere s j ≡ true → j ≢ k → j < s .p
-      → columnReads s k plan j ≡ s .p - 1 - ones plan + count (rows s) (λ i. bit ((i + j + (s .p - k)) % s .p) plan && bit i plan)
+      → columnReads s k plan j ≡ s .p - 1 - ones plan + pairs (rows s) (s .p) k plan j
   surviving-reads j lj there other l =
       omega (arith, taken-most, count-either (rows s) taken met, there-reads j lj there, read, ones-bits (rows s) plan (plan-low s k plan of accepted), last-row s k of)
     where
@@ -165,7 +169,7 @@ module _ (s : Shape) (k plan : ℕ) (of : RdpColumn s k) (accepted : isAccepted 
         same : (i : ℕ) → (i + turn) % s .p ≡ (i + j + (s .p - k)) % s .p
         same i = ap (λ (x : ℕ). (i + x) % s .p) e ∙ add-mod-mod i (j + (s .p - k)) (s .p) ∙ ap (λ (x : ℕ). x % s .p) (sym (add-assoc i j (s .p - k)))
 
-        both : ones (bitAnd turned plan) ≡ count (rows s) (λ i. bit ((i + j + (s .p - k)) % s .p) plan && bit i plan)
+        both : ones (bitAnd turned plan) ≡ pairs (rows s) (s .p) k plan j
         both =
             ones-bits (rows s) (bitAnd turned plan) (lt-of-le-of-lt (and-le-r turned plan) (plan-low s k plan of accepted))
             ∙ count-same (rows s) (λ i. bit i (bitAnd turned plan)) (λ i. bit ((i + j + (s .p - k)) % s .p) plan && bit i plan)

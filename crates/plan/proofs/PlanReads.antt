@@ -128,6 +128,7 @@ module _ (s : Shape) (k plan : ℕ) (c : RdpColumn s k) (accepted : isAccepted s
             ap (λ (d : ℕ). taken (home s k d)) (sym (last-row s k c)) ∙ ap taken (missing-home s k below)
             ∙ missing-left s k plan c accepted below
 
+    -- which is how many cells of it are read
     pub last-surviving : columnReads s k plan (s .p) ≡ ones plan
     unfolding taken
     last-surviving =

@@ -9,7 +9,6 @@ use Rattle.codes.specs.declared.Shape.{Shape}
 use Rattle.codes.specs.Shape.{rows}
 use Rattle.codes.specs.Geometry.{columnOf}
 use Rattle.refusals.specs.Refusals.{Fault, refusal}
-use Rattle.plan.specs.declared.ReadPlan.{ReadPlan}
 use Rattle.plan.specs.declared.PlanAnswer.{PlanAnswer}
 use Rattle.plan.specs.declared.PlanAnswer.the-variants.{Plan, Refused}
 use Rattle.plan.specs.Plan.{cellsRead, byRule, TakesRows}

@@ -1,4 +1,4 @@
--- What plan promises: document 01, "What each call gives".
+-- What a call that plans promises, and plan: document 01, "What each call gives".
 use mathlib.Core.Path.{_≡_}
 use mathlib.Core.List.{List}
 use mathlib.Core.Bool.{Bool}
@@ -17,7 +17,7 @@ abbrev pub planNumber : PlanAnswer → ℕ
 planNumber (Plan p) = 0
 planNumber (Refused number) = number
 
--- an answer that gives the plan for column k, as the equations number it, that takes by diagonal the rows that a rule says, and how many distinct cells it reads
+-- an answer that gives the plan for column k, as the equations number it, with the rows by diagonal that a rule says, and how many distinct cells it reads
 pub record GivesPlan (s : Shape) (k : ℕ) (rule : ℕ → Bool) (answer : PlanAnswer) : Type 0 where
   pub plan : ReadPlan
   pub says : answer ≡ Plan plan

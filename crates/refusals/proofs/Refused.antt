@@ -1,23 +1,25 @@
--- The refusals of a shape, of a lent stripe, of a small write and of calls that name cells or columns: which faults each call has after which, and what holds
+-- The refusals of a shape, of full width, of a lent stripe, of a small write and of calls that name cells or columns: which faults each call has after which, and what holds
 -- where there is none. That the faults are listed in order is seen from their numbers (`refl`).
-use mathlib.Core.Path.{_≡_, refl}
+use mathlib.Core.Path.{_≡_, refl, ap, _∙_}
 use mathlib.Core.List.{List, [], _∷_}
 use mathlib.Core.Bool.{Bool, true, false, not}
-use Prim.Native.Nat.{ℕ, _<_}
+use Prim.Native.Nat.{ℕ, _-_, _<_}
 use native.Mathlib.Omega.{arith}
-use lib.Dec.{eqb, leb}
+use lib.Dec.{eqb, leb, ltb}
 use lib.ListN.{length, getD}
-use borrow.Author.Tests.{eqb-true, eqb-false, ltb-false, leb-false, lt-leb, not-false}
+use borrow.Author.Tests.{eqb-true, eqb-false, ltb-true, ltb-false, leb-false, lt-leb, lt-ltb, not-false}
 use Rattle.xor.specs.Sets.{any}
-use Rattle.xor.proofs.Cases.{by-test}
+use Rattle.xor.proofs.Cases.{by-test, same-test}
 use Rattle.xor.proofs.Sets.{any-none, none-any}
 use Rattle.codes.specs.declared.Shape.{Shape}
-use Rattle.codes.specs.Shape.{lastCode, rows, disks, existing, stripeLength, WellFormed}
+use Rattle.codes.specs.declared.Width.the-variants.{Full, Data}
+use Rattle.codes.specs.Shape.{lastCode, listed, rows, missing, disks, existing, stripeLength, WellFormed}
 use Rattle.codes.specs.Geometry.{columnOf, cellAt}
 use Rattle.codes.specs.Encoded.{isParity}
-use Rattle.refusals.specs.Refusals.{fault, outside, otherLength, order, refusal, codeFaults, sizeFaults, shapeFaults, stripeFaults, writeFaults, cellsFaults, columnsFaults}
 use Rattle.codes.specs.Depends.{WriteRight}
+use Rattle.codes.proofs.Shapes.{full-missing, data-missing}
 use Rattle.codes.proofs.Geometry.{column-there, is-there}
+use Rattle.refusals.specs.Refusals.{fault, outside, otherLength, order, refusal, codeFaults, sizeFaults, shapeFaults, stripeFaults, writeFaults, cellsFaults, columnsFaults}
 use Rattle.refusals.proofs.Order.{None, Gives, After, after, alone, gives, none-of}
 
 -- ---- a shape
@@ -55,6 +57,23 @@ module _ (s : Shape) where
   -- a shape that is not refused is well formed
   pub shape-accepted : refusal (shapeFaults s) ≡ 0 → WellFormed s
   shape-accepted none = let n = shape-after .none none in well-formed (n .0) (n .1)
+
+-- ---- full width
+
+-- where code, prime and number of data columns are not refused the prime is a listed one
+pub prime-listed : (s : Shape) → refusal (codeFaults s) ≡ 0 → listed (s .p) ≡ true
+unfolding order
+prime-listed s none = not-false _ (none-of (codeFaults s) refl none .1 .1 .0)
+
+-- no column is missing where no number of data columns is given
+pub full-is : (s : Shape) → s .width ≡ Full → false ≡ ltb 0 (missing s)
+full-is s e = ap (ltb 0) (full-missing s e)
+
+-- where one is, some are missing exactly if it is below p-1
+pub short-is : (s : Shape) (m : ℕ) → s .width ≡ Data m → ltb m (s .p - 1) ≡ ltb 0 (missing s)
+short-is s m e =
+    same-test (λ h. lt-ltb 0 (s .p - 1 - m) (omega (arith, ltb-true m (s .p - 1) h))) (λ h. lt-ltb m (s .p - 1) (omega (arith, ltb-true 0 (s .p - 1 - m) h)))
+    ∙ ap (ltb 0) (data-missing s m e)
 
 -- ---- a lent stripe
 

@@ -6,7 +6,7 @@ use lib.Dec.{eqb, leb, ltb}
 use lib.ListN.{length, getD}
 use Rattle.xor.specs.Sets.{any}
 use Rattle.codes.specs.declared.Shape.{Shape}
-use Rattle.codes.specs.Shape.{lastCode, listed, mostCell, wrongData, rows, disks, existing, stripeLength}
+use Rattle.codes.specs.Shape.{lastCode, listed, mostCell, wrongData, rows, missing, disks, existing, stripeLength}
 use Rattle.codes.specs.Geometry.{cellAt}
 use Rattle.codes.specs.Encoded.{isParity}
 
@@ -41,6 +41,10 @@ fault n applies = record { number = n; applies = applies }
 abbrev pub codeFaults : Shape → List Fault
 codeFaults s =
     fault 1 (eqb (s .code) 0) ∷ fault 1 (ltb lastCode (s .code)) ∷ fault 2 (not (listed (s .p))) ∷ fault 14 (wrongData (s .code) (s .p) (s .width)) ∷ []
+
+-- some data column doesn't exist, where a call is for full width alone
+abbrev pub notFull : Shape → Fault
+notFull s = fault 14 (ltb 0 (missing s))
 
 -- the refusals of a cell size
 abbrev pub sizeFaults : Shape → List Fault

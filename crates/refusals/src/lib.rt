@@ -1,9 +1,11 @@
-// The refusals that calls on a stripe share, by their numbers: of its shape, of its length, of a small write, and of calls that name cells or columns.
+// The refusals that calls share, by their numbers: of a shape, of a stripe's length, of a small write, and of calls that name cells or columns.
 ghost use mathlib.Core.Path.{_≡_};
+ghost use mathlib.Core.Bool.{true};
 ghost use Prim.Native.Nat.{ℕ, _<_};
+ghost use lib.Dec.{ltb};
 ghost use lib.ListN.{length, getD};
 ghost use Rattle.xor.specs.Runs.{Says};
-ghost use Rattle.codes.specs.Shape.{listed, rows, disks, wrongData, WellFormed};
+ghost use Rattle.codes.specs.Shape.{listed, rows, missing, wrongData, disks, WellFormed};
 ghost use Rattle.codes.specs.Geometry.{cellAt};
 ghost use Rattle.codes.specs.Encoded.{isParity};
 ghost use Rattle.refusals.specs.Refusals.{refusal, codeFaults, sizeFaults, shapeFaults, stripeFaults, writeFaults, cellsFaults, columnsFaults};
@@ -54,6 +56,18 @@ pub fn code_refusal(shape: Shape) -> usize
         return 14;
     }
     0
+}
+
+// Whether some data column doesn't exist.
+pub fn is_short(shape: Shape) -> bool
+    requires { ⌜ listed (shape .p) ≡ true ⌝ }
+    ensures { λ r. ⌜ r ≡ ltb 0 (missing shape) ⌝ }
+{
+    let width = shape.width;
+    let Width::Data(m) = width else {
+        return false;
+    };
+    m < shape.p - 1
 }
 
 // The refusal of a cell size: 4 or 0.

@@ -1,5 +1,5 @@
--- The examples that document 01 marks P, as one table, and such of shelves with fewer disks, of EVENODD and of balanced plans. Each row claims something in the
--- words of the contracts.
+-- The examples that document 01 marks P, as one table, and such of shelves with fewer disks, of EVENODD and of balanced plans. Each row claims
+-- something in the words of the contracts.
 use mathlib.Core.Path.{_≡_}
 use mathlib.Core.List.{List, [], _∷_, _++_}
 use Prim.Native.Nat.{ℕ, _*_}
@@ -39,9 +39,10 @@ pub data Claim : Type 0 where
   -- that the plan for column k takes these rows by diagonal, with so many reads; that a run for column k by a plan is refused so
   planned : (k rows reads : ℕ) → Claim
   runRefused : (k plan number : ℕ) → Claim
-  -- that the balanced plan for column k takes these rows by diagonal, with so many reads; that it is refused so; that a plan reads so many cells of a column
+  -- that the balanced plan for column k takes these rows by diagonal, with so many reads; that it is refused so
   balanced : (k rows reads : ℕ) → Claim
   balanceRefused : (k number : ℕ) → Claim
+  -- that a plan for column k reads so many cells of a column
   readFrom : (k plan column count : ℕ) → Claim
 
 -- a row: the number behind P or of a request, a stripe, and what is claimed of it
@@ -147,7 +148,7 @@ evenodds =
 abbrev pub seven : Width → Claim → Example
 seven width claim = record { number = 4; shape = record { code = 1; p = 7; cell = 1; width = width }; claim = claim; stripe = replicate 48 0 }
 
--- the same of balanced plans, for document 02, request 04: column 0 with its reads from each other column, by plan and by the balanced plan, and refusals
+-- the same of balanced plans, for document 02, request 04: column 0 with its reads of each other column, balanced and by plan, and refusals
 unfoldable pub balances : List Example
 balances =
     seven Full (balanced 0 22 27)

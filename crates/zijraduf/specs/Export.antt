@@ -46,7 +46,7 @@ foundInNumbers (Column c) = record { refusal = 0; finding = 2; column = c }
 foundInNumbers Unexplained = record { refusal = 0; finding = 3; column = 0 }
 foundInNumbers (Refused number) = record { refusal = number; finding = 0; column = 0 }
 
--- plan's answer in three numbers: the refusal number, the mask of rows and the reads, which are 0 where the call is refused
+-- the answer of plan or balanced plan in three numbers: the refusal number, the mask of rows and the reads, which are 0 where the call is refused
 abbrev pub planInNumbers : PlanAnswer → Planned
 planInNumbers (Plan plan) = record { refusal = 0; rows = plan .rows; reads = plan .reads }
 planInNumbers (PlanRefused number) = record { refusal = number; rows = 0; reads = 0 }

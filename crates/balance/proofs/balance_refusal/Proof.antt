@@ -7,8 +7,9 @@ use Prim.Native.Nat.{ℕ}
 use borrow.Author.Tests.{le-leb, lt-leb}
 use Rattle.refusals.specs.Refusals.{refusal, outside}
 use Rattle.refusals.proofs.Order.{Gives, hit, miss, right}
+use Rattle.refusals.proofs.Refused.{prime-listed}
 use Rattle.balance.specs.Refusals.{balanceFaults}
-use Rattle.balance.proofs.Refused.{shortFaults, rdpFaults, primeFaults, lastFaults, prime-listed, balance-after, size-decides, size-passes}
+use Rattle.balance.proofs.Refused.{shortFaults, rdpFaults, primeFaults, lastFaults, balance-after, size-decides, size-passes}
 use borrow.Author.Needs.{needs}
 use Rattle.balance.proofs.balance_refusal.Statement.{statement}
 use Rattle.balance.proofs.balance_refusal.Tie as tie

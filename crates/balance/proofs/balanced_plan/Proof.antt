@@ -5,8 +5,9 @@ use native.Mathlib.Omega.{arith}
 use Rattle.refusals.specs.Refusals.{refusal}
 use Rattle.plan.proofs.Planning.{plan-refused}
 use Rattle.balance.specs.Refusals.{balanceFaults}
+use Rattle.balance.specs.Right.{Balanceable}
 use Rattle.balance.proofs.Offered.{offered-bounds}
-use Rattle.balance.proofs.Refused.{Balanceable, balance-accepted}
+use Rattle.balance.proofs.Refused.{balance-accepted}
 use Rattle.balance.proofs.BalanceFacts.{few, balance-given}
 use borrow.Author.Needs.{needs}
 use Rattle.balance.proofs.balanced_plan.Statement.{statement}

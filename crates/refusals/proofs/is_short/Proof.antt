@@ -1,10 +1,10 @@
--- `balance::is_short` meets its contract. Columns are missing where a number of data columns is given that is below p - 1.
+-- `refusals::is_short` meets its contract. Columns are missing where a number of data columns is given that is below p - 1.
 use native.Mathlib.Omega.{arith}
 use Rattle.codes.proofs.Shapes.{prime-low}
-use Rattle.balance.proofs.Refused.{full-is, short-is}
+use Rattle.refusals.proofs.Refused.{full-is, short-is}
 use borrow.Author.Needs.{needs}
-use Rattle.balance.proofs.is_short.Statement.{statement}
-use Rattle.balance.proofs.is_short.Tie as tie
+use Rattle.refusals.proofs.is_short.Statement.{statement}
+use Rattle.refusals.proofs.is_short.Tie as tie
 
 enum-known-width : tie.Need-enum-known-width
 enum-known-width c = search needs
