@@ -8,7 +8,7 @@
     value[$1, row, $6] = $7
     if ($1 == "bytes" && $6 == "ours") rows[++count] = row
     if ($1 == "bytes") there[$5, $6] = 1
-    if ($1 == "reads") of_column[row, $6] = $8
+    if ($1 == "reads") value["most", row, $6] = $8
     if ($1 == "stack") stacks[++stack_count] = $5
     kinds[$1] = 1
 }
@@ -75,33 +75,18 @@ function tables(kind, title) {
     table(kind, "Run by plan", "run run-rows run-balanced")
 }
 
-# The cells that a run reads are as many whatever the size of a cell.
-function reads(    r, part, plan, alone, last) {
-    for (r = 1; r <= count; r++) if (rows[r] ~ "^run" SUBSEP) {
+# A measure of the cells that a run reads beside another run's. They are as many whatever the size of a cell.
+function reads(kind, call, other, title, mine, theirs,    r, part, x, y, last) {
+    for (r = 1; r <= count; r++) if (rows[r] ~ "^" call SUBSEP) {
         split(rows[r], part, SUBSEP)
         if (part[2] SUBSEP part[3] == last) continue
         if (!last) {
-            printf "\n## Run by plan: distinct cells read, and by plan as a multiple (less is better)\n\n"
-            print "| code    |  p | by plan | by rows alone | / rows |"; print "|---------|---:|--------:|--------------:|-------:|"
+            printf "\n## %s, and as a multiple (less is better)\n\n", title
+            printf "| code    |  p | %13s | %13s |   ratio |\n", mine, theirs; print "|---------|---:|--------------:|--------------:|--------:|"
         }
         last = part[2] SUBSEP part[3]
-        plan = value["reads", rows[r], "ours"]; alone = value["reads", same_row(rows[r], "run-rows", "", ""), "ours"]
-        printf "| %-7s | %2d | %7d | %13d |%s\n", code_name(part[2]), part[3], plan, alone, entry(plan / alone, 2, 6)
-    }
-}
-
-# So are those of the column that it reads most of, which a balanced plan keeps few.
-function evenness(    r, part, plan, balanced, last) {
-    for (r = 1; r <= count; r++) if (rows[r] ~ "^run-balanced" SUBSEP) {
-        split(rows[r], part, SUBSEP)
-        if (part[2] SUBSEP part[3] == last) continue
-        if (!last) {
-            printf "\n## Run by balanced plan: the most cells read of one column, and as a multiple (less is better)\n\n"
-            print "| code    |  p | balanced | by plan | / plan |"; print "|---------|---:|---------:|--------:|-------:|"
-        }
-        last = part[2] SUBSEP part[3]
-        balanced = of_column[rows[r], "ours"]; plan = of_column[same_row(rows[r], "run", "", ""), "ours"]
-        printf "| %-7s | %2d | %8d |%s%s\n", code_name(part[2]), part[3], balanced, entry(plan, 0, 7), entry(by(balanced, plan), 2, 6)
+        x = value[kind, rows[r], "ours"]; y = value[kind, same_row(rows[r], other, "", ""), "ours"]
+        printf "| %-7s | %2d | %13d |%s%s\n", code_name(part[2]), part[3], x, entry(y, 0, 13), entry(by(x, y), 2, 7)
     }
 }
 
@@ -227,8 +212,8 @@ END {
     tables("instructions", "Instructions per data byte, of write per byte of the cell, and ours as a multiple (less is better)")
     counts("deciding", "Deciding: all instructions of two lost columns with cells of one byte")
     counts("balanced-plan", "Balanced plan: all instructions of a call")
-    reads()
-    evenness()
+    reads("reads", "run", "run-rows", "Run by plan: distinct cells read", "by plan", "by rows alone")
+    reads("most", "run-balanced", "run", "Run by balanced plan: the most cells read of one column", "balanced plan", "by plan")
     tables("warm", "GB/s of data, warm, and ours as a multiple (more is better)")
     tables("cold", "GB/s of data, cold, and ours as a multiple (more is better)")
 

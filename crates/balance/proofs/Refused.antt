@@ -15,29 +15,29 @@ use Rattle.balance.specs.Right.{Balanceable}
 use Rattle.balance.specs.Refusals.{notOffered, balanceFaults}
 
 -- the faults of a balanced plan from the cell size on; from the prime, from the code and from missing columns on
-abbrev pub lastFaults : Shape → ℕ → List Fault
-lastFaults s k = sizeFaults s ++ outside k (s .p) ∷ []
+abbrev pub fromSize : Shape → ℕ → List Fault
+fromSize s k = sizeFaults s ++ outside k (s .p) ∷ []
 
-abbrev pub primeFaults : Shape → ℕ → List Fault
-primeFaults s k = notOffered s ∷ lastFaults s k
+abbrev pub fromPrime : Shape → ℕ → List Fault
+fromPrime s k = notOffered s ∷ fromSize s k
 
-abbrev pub rdpFaults : Shape → ℕ → List Fault
-rdpFaults s k = notRdp s ∷ primeFaults s k
+abbrev pub fromCode : Shape → ℕ → List Fault
+fromCode s k = notRdp s ∷ fromPrime s k
 
-abbrev pub shortFaults : Shape → ℕ → List Fault
-shortFaults s k = notFull s ∷ rdpFaults s k
+abbrev pub fromWidth : Shape → ℕ → List Fault
+fromWidth s k = notFull s ∷ fromCode s k
 
 module _ (s : Shape) (k : ℕ) where
-  pub balance-after : After (codeFaults s) (shortFaults s k) (balanceFaults s k)
+  pub balance-after : After (codeFaults s) (fromWidth s k) (balanceFaults s k)
   unfolding balanceFaults order
-  balance-after = after (codeFaults s) (shortFaults s k) refl refl
+  balance-after = after (codeFaults s) (fromWidth s k) refl refl
 
   -- the cell size decides, or the column does
-  pub size-decides : {r : ℕ} → r ≡ refusal (sizeFaults s) → r ≢ 0 → Gives (lastFaults s k) r
+  pub size-decides : {r : ℕ} → r ≡ refusal (sizeFaults s) → r ≢ 0 → Gives (fromSize s k) r
   unfolding order
   size-decides e some = decides (sizeFaults s) (outside k (s .p) ∷ []) refl (size-gives s e) some
 
-  pub size-passes : {r : ℕ} → 0 ≡ refusal (sizeFaults s) → Gives (outside k (s .p) ∷ []) r → Gives (lastFaults s k) r
+  pub size-passes : {r : ℕ} → 0 ≡ refusal (sizeFaults s) → Gives (outside k (s .p) ∷ []) r → Gives (fromSize s k) r
   unfolding order
   size-passes e own = passes (sizeFaults s) (outside k (s .p) ∷ []) refl (size-gives s e) own
 

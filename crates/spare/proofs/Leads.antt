@@ -2,16 +2,16 @@
 -- less the row in which it meets that column, whatever the map between columns and where they lie, where each of them exists.
 use mathlib.Core.Path.{_≡_, refl, sym, ap, ap₂, _∙_}
 use mathlib.Core.Logic.{_≢_}
-use mathlib.Core.Bool.{Bool, true}
+use mathlib.Core.Bool.{Bool, true, not}
 use Prim.Native.Nat.{ℕ, _+_, _-_, _*_, _%_, _≤_, _<_}
 use native.Mathlib.Nat.{mod-lt, mod-eq-of-lt, mod-add-mod, add-mod-right, mul-le-mul-right, one-mul, zero-mul, zero-add, mod-self}
 use native.Mathlib.Omega.{arith}
-use lib.Dec.{eqb}
-use borrow.Author.Tests.{eqb-true}
+use lib.Dec.{ltb}
+use borrow.Author.Tests.{ltb-false, not-true}
 use Rattle.xor.proofs.Cases.{by-equal, by-less}
 use Rattle.codes.specs.declared.Shape.{Shape}
 use Rattle.codes.specs.Shape.{rows, cellNumber, missing, WellFormed}
-use Rattle.codes.specs.Geometry.{gap, columnOf, liesAt, place}
+use Rattle.codes.specs.Geometry.{columnOf, liesAt, place}
 use Rattle.codes.proofs.Shapes.{low, rows-low, missing-low, disks-is}
 use Rattle.codes.proofs.Residues.{wrapped}
 use Rattle.codes.proofs.Lines.{rdp-rows, rdp-columns}
@@ -34,8 +34,8 @@ meets s k i = (diagonal s k i + (s .p - leader s)) % s .p
 
 -- ---- whether every column exists, as the code tests it
 
-pub none-missing : (s : Shape) (w : WellFormed s) (full : Bool) → full ≡ eqb (gap s) (s .p - 1) → full ≡ true → missing s ≡ 0
-none-missing s w full is e = omega (arith, missing-low s w, eqb-true (gap s) (s .p - 1) (sym is ∙ e))
+pub none-missing : (s : Shape) (short : Bool) → short ≡ ltb 0 (missing s) → not short ≡ true → missing s ≡ 0
+none-missing s short is e = let none : missing s ≤ 0 = ltb-false 0 (missing s) (sym is ∙ not-true short e) in omega arith
 
 -- ---- the column that leads
 

@@ -4,9 +4,7 @@
 ghost use mathlib.Core.Path.{_≡_};
 ghost use Prim.Native.Nat.{_+_, _-_, _*_, _≤_, _<_, min};
 ghost use lib.ListN.{length};
-ghost use lib.Dec.{eqb};
 ghost use Rattle.codes.specs.Shape.{rows, missing, WellFormed};
-ghost use Rattle.codes.specs.Geometry.{gap};
 ghost use Rattle.refusals.specs.Refusals.{refusal};
 ghost use Rattle.plan.specs.Right.{RdpColumn};
 ghost use Rattle.spare.specs.Refusals.{spareFaults, runFaults};
@@ -71,14 +69,6 @@ fn run_refusal(shape: Shape, bytes: usize, spare: usize, k: usize, plan: u64, fi
         return 9;
     }
     0
-}
-
-// Whether every data column exists.
-fn is_full(shape: Shape) -> bool
-    requires { ⌜ WellFormed shape ⌝ }
-    ensures { λ r. ⌜ r ≡ eqb (gap shape) (shape .p - 1) ⌝ }
-{
-    codes::data_columns(shape) == shape.p - 1
 }
 
 // The column that leads: the one that lies first, or column 0 where that is the diagonal parity column. No other of the first p columns starts
@@ -228,7 +218,7 @@ fn run_rows(
     requires { ⌜ RunRight shape (length (now stripe)) (length (now spare)) k plan first × (first + n ≤ rows shape) ⌝ }
     ensures { λ _. ⌜ RowsRebuilt shape k plan first n (now (stripe .entry)) (now (spare .entry)) (now (spare .exit)) ⌝ }
 {
-    if is_full(shape) {
+    if !refusals::is_short(shape) {
         let full = Shape {
             code: shape.code,
             p: shape.p,

@@ -9,7 +9,7 @@ use Rattle.refusals.specs.Refusals.{refusal, outside}
 use Rattle.refusals.proofs.Order.{Gives, hit, miss, right}
 use Rattle.refusals.proofs.Refused.{prime-listed}
 use Rattle.balance.specs.Refusals.{balanceFaults}
-use Rattle.balance.proofs.Refused.{shortFaults, rdpFaults, primeFaults, lastFaults, balance-after, size-decides, size-passes}
+use Rattle.balance.proofs.Refused.{fromWidth, fromCode, fromPrime, fromSize, balance-after, size-decides, size-passes}
 use borrow.Author.Needs.{needs}
 use Rattle.balance.proofs.balance_refusal.Statement.{statement}
 use Rattle.balance.proofs.balance_refusal.Tie as tie
@@ -34,16 +34,16 @@ asked c = c .before .before .before .before .before
 
 -- past each test what the next faults give is given
 module _ {r : ℕ} where
-  past1 : (c : tie.Else1) → let a = asked c .args in Gives (shortFaults (a .shape) (a .k)) r → r ≡ refusal (balanceFaults (a .shape) (a .k))
+  past1 : (c : tie.Else1) → let a = asked c .args in Gives (fromWidth (a .shape) (a .k)) r → r ≡ refusal (balanceFaults (a .shape) (a .k))
   past1 c = balance-after (asked c .args .shape) (asked c .args .k) .own (sym (c .before .before .before .before .code-refusal .ensures) ∙ c .if1 .left)
 
-  past2 : (c : tie.Else2) → let a = asked (c .before .before) .args in Gives (rdpFaults (a .shape) (a .k)) r → r ≡ refusal (balanceFaults (a .shape) (a .k))
+  past2 : (c : tie.Else2) → let a = asked (c .before .before) .args in Gives (fromCode (a .shape) (a .k)) r → r ≡ refusal (balanceFaults (a .shape) (a .k))
   past2 c next = past1 (c .before .before) (miss (sym (c .before .is-short .ensures) ∙ c .if2 .left) next)
 
-  past3 : (c : tie.Else3) → let a = asked (c .before .before .before) .args in Gives (primeFaults (a .shape) (a .k)) r → r ≡ refusal (balanceFaults (a .shape) (a .k))
+  past3 : (c : tie.Else3) → let a = asked (c .before .before .before) .args in Gives (fromPrime (a .shape) (a .k)) r → r ≡ refusal (balanceFaults (a .shape) (a .k))
   past3 c next = past2 (c .before) (miss (c .if3 .left) next)
 
-  past4 : (c : tie.Else4) → let a = asked (c .before .before .before .before) .args in Gives (lastFaults (a .shape) (a .k)) r → r ≡ refusal (balanceFaults (a .shape) (a .k))
+  past4 : (c : tie.Else4) → let a = asked (c .before .before .before .before) .args in Gives (fromSize (a .shape) (a .k)) r → r ≡ refusal (balanceFaults (a .shape) (a .k))
   past4 c next = past3 (c .before) (miss (ap not (sym (c .before .before .before .before .before .before .is-offered .ensures)) ∙ c .if4 .left) next)
 
   past5 : (c : tie.Else5) → let a = asked (c .before .before .before .before .before) .args in Gives (outside (a .k) (a .shape .p) ∷ []) r → r ≡ refusal (balanceFaults (a .shape) (a .k))

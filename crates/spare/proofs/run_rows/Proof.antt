@@ -5,14 +5,14 @@ use Rattle.spare.proofs.Widths.{none-given, few, run-widened, rows-wide
 use Rattle.spare.proofs.run_rows.Statement.{statement}
 use Rattle.spare.proofs.run_rows.Tie as tie
 
-is-full-requires : tie.Need-is-full-requires
-is-full-requires c κs = c .before .before .pre .0 .buffers .of .formed
+is-short-requires : tie.Need-is-short-requires
+is-short-requires c κs = c .before .before .pre .0 .buffers .of .formed .prime
 
 run-full-requires : tie.Need-run-full-requires
 run-full-requires c κs =
     let pre = c .before .before .before .before .before .pre in
     let shape = c .before .before .before .before .before .args .shape in
-    let full = none-missing _ (pre .0 .buffers .of .formed) _ (c .before .before .is-full .ensures) (c .before .if1 .taken) in
+    let full = none-missing shape _ (c .before .before .is-short .ensures) (c .before .if1 .taken) in
     (run-widened shape full _ _ _ _ _ (pre .0), few shape _ (pre .1), none-given shape)
 
 same-length : tie.Need-same-length
@@ -21,7 +21,7 @@ same-length c = search needs
 returns : tie.Need-returns
 returns c =
     let start = c .before .before .before .before .before .before .before .before in
-    let full = none-missing _ (start .pre .0 .buffers .of .formed) _ (c .before .before .before .before .before .is-full .ensures) (c .before .before .before .before .if1 .taken) in
+    let full = none-missing (start .args .shape) _ (c .before .before .before .before .before .is-short .ensures) (c .before .before .before .before .if1 .taken) in
     rows-widened (start .args .shape) full _ _ _ _ _ _ _ (c .before .before .run-full .ensures)
 
 run-rows-requires : tie.Need-run-rows-requires
@@ -37,7 +37,7 @@ pub run-rows-spec : {M : Type 1} → statement M
 run-rows-spec =
     tie.close
     (tie.spec
-    is-full-requires
+    is-short-requires
     run-full-requires
     same-length
     returns
