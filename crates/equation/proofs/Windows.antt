@@ -9,12 +9,12 @@ use native.Mathlib.Omega.{arith}
 use lib.Dec.{eqb}
 use lib.ListN.{length, getD, take, replicate, getD-replicate, length-replicate, List·getD-eq-default}
 use borrow.Author.Tests.{eq-eqb, ne-eqb, eqb-true, not-false}
-use Rattle.xor.specs.Xor.{_⊕_, xors}
+use Rattle.xor.specs.Xor.{_⊕_}
 use Rattle.xor.specs.Sets.{any}
-use Rattle.xor.specs.Runs.{sumAt, withOwn, addedTo, Inside, Apart, Put, Says, NonzeroAt}
+use Rattle.xor.specs.Runs.{sumAt, addedTo, Inside, Apart, Put, Says, Summed, NonzeroAt}
 use Rattle.xor.proofs.Cases.{by-test, by-equal, by-less, clash}
 use Rattle.xor.proofs.Algebra.{zero-⊕, ⊕-comm, ⊕-equal, equal-⊕}
-use Rattle.xor.proofs.Runs.{first-long, first-at, first-inside, first-sum, says-zero, put-same, nonzero-same}
+use Rattle.xor.proofs.Runs.{first-long, first-at, first-inside, first-sum, one-inside, one-sum, says-zero, put-same, summed-same, nonzero-same}
 use Rattle.xor.proofs.Sets.{none-any, any-none}
 use Rattle.codes.specs.declared.Shape.{Shape}
 use Rattle.codes.specs.declared.Sources.{Sources}
@@ -24,7 +24,7 @@ use Rattle.codes.specs.Encoded.{parityCell, byteAt, parityByte, total, fails, i
 use Rattle.codes.specs.Lines.{shares, takesShared, ownCell, sumWhere, sharedSum, ownTotal, Listing, Found}
 use Rattle.codes.proofs.Geometry.{place-apart, parity-there, byte-there, byte-same}
 use Rattle.codes.proofs.Shared.{takes-shares, own-all, own-total, own-shared, shared-total, shared-same}
-use Rattle.equation.specs.Window.{bytesAt, Window, Shares, ParityPut, ParitySet, failsIn}
+use Rattle.equation.specs.Window.{bytesAt, Window, Shares, ParityPut, ParitySet, ParityZero, failsIn}
 
 -- ---- an equation fails, or it holds
 
@@ -43,7 +43,7 @@ module _ (s : Shape) (stripe : List ℕ) (q at n : ℕ) where
       none-any n (λ i. not (eqb (total s q (bytesAt s stripe (at + i))) 0)) (λ i l. ap not (eq-eqb (total s q (bytesAt s stripe (at + i))) 0 (h i l)))
 
   -- what a test of the total in every byte says
-  fails-says : (b : Bool) → Says ((i : ℕ) → i < n → total s q (bytesAt s stripe (at + i)) ≡ 0) b → not b ≡ failsIn s stripe q at n
+  pub fails-says : (b : Bool) → Says ((i : ℕ) → i < n → total s q (bytesAt s stripe (at + i)) ≡ 0) b → not b ≡ failsIn s stripe q at n
   fails-says true test = sym (holds-everywhere (test .yes refl))
   fails-says false test = sym (by-test (failsIn s stripe q at n) (λ p. p) (λ p. absurd (test .no refl (not-failing p))))
 
@@ -69,32 +69,29 @@ module _ (s : Shape) (stripe : List ℕ) (at n : ℕ) (w : Window s stripe at n)
   listed-added into into′ to put =
       put-same into into′ to n (addedTo into to stripe (take m places) at) (λ i. getD into (to + i) 0 ⊕ sum (bytesAt s stripe (at + i))) put (λ i l. ap (λ (x : ℕ). getD into (to + i) 0 ⊕ x) (listed-sum stripe (at + i)))
 
-  pub listed-put : (into into′ : List ℕ) (to : ℕ) → Put into to n (λ t. sumAt stripe (take m places) (at + t)) into′ → Put into to n (λ i. sum (bytesAt s stripe (at + i))) into′
-  listed-put into into′ to put =
-      put-same into into′ to n (λ t. sumAt stripe (take m places) (at + t)) (λ i. sum (bytesAt s stripe (at + i))) put (λ i l. listed-sum stripe (at + i))
+  pub listed-summed : (into into′ : List ℕ) (to : ℕ) (r : Bool) → Summed into to n (λ t. sumAt stripe (take m places) (at + t)) into′ r → Summed into to n (λ i. sum (bytesAt s stripe (at + i))) into′ r
+  listed-summed into into′ to r h =
+      summed-same into into′ to n (λ t. sumAt stripe (take m places) (at + t)) (λ i. sum (bytesAt s stripe (at + i))) r h (λ i l. listed-sum stripe (at + i))
+
+  -- whether they are zero
+  pub listed-says : (b : Bool) → Says ((t : ℕ) → t < n → sumAt stripe (take m places) (at + t) ≡ 0) b → Says ((i : ℕ) → i < n → sum (bytesAt s stripe (at + i)) ≡ 0) b
+  listed-says b = says-zero n (λ t. sumAt stripe (take m places) (at + t)) (λ i. sum (bytesAt s stripe (at + i))) b (λ i l. listed-sum stripe (at + i))
+
+  -- and with other bytes
+  pub listed-with : (other : List ℕ) (b : Bool) → Says ((t : ℕ) → t < n → sumAt stripe (take m places) (at + t) ⊕ getD other t 0 ≡ 0) b → Says ((i : ℕ) → i < n → sum (bytesAt s stripe (at + i)) ⊕ getD other i 0 ≡ 0) b
+  listed-with other b =
+      says-zero n (λ t. sumAt stripe (take m places) (at + t) ⊕ getD other t 0) (λ i. sum (bytesAt s stripe (at + i)) ⊕ getD other i 0) b (λ i l. ap (λ (x : ℕ). x ⊕ getD other i 0) (listed-sum stripe (at + i)))
 
 -- a new array has zeros
 pub new-zeros : (m i : ℕ) → _≡_ {A = ℕ} (getD (replicate m 0) i 0) 0
 new-zeros m i = by-less i m (getD-replicate {A = ℕ} m i 0 0) (λ l. List·getD-eq-default (replicate m 0) 0 (omega (arith, length-replicate {A = ℕ} m 0)))
 
--- ---- one run, at the first place
-
-module _ (bytes : List ℕ) where
-  pub one-inside : (n : ℕ) → n ≤ length bytes → Inside (length bytes) (0 ∷ []) (0 + n)
-  one-inside n l = record { ends = λ k lk. at-first k lk }
-    where
-      at-first : (k : ℕ) → k < 1 → getD (0 ∷ []) k 0 + (0 + n) ≤ length bytes
-      at-first zero lk = omega arith
-      at-first (suc k) lk = absurd (omega arith)
-
-  pub one-sum : (t : ℕ) → sumAt bytes (0 ∷ []) (0 + t) ≡ getD bytes t 0
-  unfolding sumAt xors
-  one-sum t = zero-⊕ (getD bytes (0 + (0 + t)) 0) ∙ ap (λ (i : ℕ). getD bytes i 0) (let z : 0 + (0 + t) ≡ t = omega arith in z)
-
-  pub one-added : (into into′ : List ℕ) (to n : ℕ) → Put into to n (addedTo into to bytes (0 ∷ []) 0) into′ → Put into to n (λ i. getD into (to + i) 0 ⊕ getD bytes i 0) into′
-  unfolding addedTo
-  one-added into into′ to n put =
-      put-same into into′ to n (addedTo into to bytes (0 ∷ []) 0) (λ i. getD into (to + i) 0 ⊕ getD bytes i 0) put (λ i l. ap (λ (x : ℕ). getD into (to + i) 0 ⊕ x) (one-sum i))
+-- one run, at the first place
+pub one-added : (bytes into into′ : List ℕ) (to n : ℕ) (r : Bool) → Summed into to n (addedTo into to bytes (0 ∷ []) 0) into′ r → Summed into to n (λ i. getD into (to + i) 0 ⊕ getD bytes i 0) into′ r
+unfolding addedTo
+one-added bytes into into′ to n r h =
+    summed-same into into′ to n (addedTo into to bytes (0 ∷ []) 0) (λ i. getD into (to + i) 0 ⊕ getD bytes i 0) r h
+    (λ i l. ap (λ (x : ℕ). getD into (to + i) 0 ⊕ x) (one-sum bytes 0 (0 + i) ∙ ap (λ (k : ℕ). getD bytes k 0) (zero-add (0 + i) ∙ zero-add i)))
 
 -- ---- the parity cell of an equation in a window
 
@@ -113,6 +110,12 @@ module _ (s : Shape) (stripe : List ℕ) (at n : ℕ) (w : Window s stripe at n)
         (λ e. ⊎-elim (λ side. inl (omega (arith, is))) (λ side. inr (omega (arith, is, w .ends))) (place-apart s (w .formed) c (parityCell s q) there (parity-there s (w .formed) q lq) e))));
   }
 
+  -- whether they are all zero
+  pub parity-zero : (f : ℕ → ℕ) (new : List ℕ) (r : Bool) → Summed stripe (to + at) n f new r → ParityZero s q at n new r
+  parity-zero f new r h =
+      says-zero n (λ i. getD new (to + at + i) 0) (λ i. byteAt s new (parityCell s q) (at + i)) r
+      (λ i l. ap (λ (x : ℕ). getD new x 0) (add-assoc to at i) ∙ sym (own-byte new (at + i))) (h .zero)
+
   -- bytes that are XORed in there
   pub parity-more : (value : ℕ → ℕ) (old : List ℕ) (x : ℕ → ℕ) (new : List ℕ) → ParityPut s q at n value old stripe → Put stripe (to + at) n (λ i. getD stripe (to + at + i) 0 ⊕ x i) new → ParityPut s q at n (λ i. value i ⊕ x i) old new
   parity-more value old x new before put =
@@ -125,41 +128,39 @@ module _ (s : Shape) (stripe : List ℕ) (at n : ℕ) (w : Window s stripe at n)
 
 -- ---- the cells that an equation sums by itself
 
-module _ (s : Shape) (stripe : List ℕ) (at n : ℕ) (w : Window s stripe at n) (q : ℕ) (r : Sources) (places : List ℕ) (h : Found s q r places) where
+module _ (s : Shape) (stripe : List ℕ) (at n : ℕ) (w : Window s stripe at n) (q : ℕ) (r : Sources) (places : List ℕ) (h′ : Found s q r places) where
   -- they lie apart from the parity cell
   pub used-apart : Apart (take (r .count) places) (r .to) (at + n)
   used-apart = record {
-    side = λ k l. subst (λ (x : ℕ). (x + (at + n) ≤ r .to) ⊎ (r .to + (at + n) ≤ x)) (sym (first-at places (r .count) (omega (arith, h .few, h .listed .long)) k l))
-        (⊎-elim (λ z. inl (omega (arith, w .ends))) (λ z. inr (omega (arith, w .ends))) (h .apart k (omega (arith, listed-long s stripe at n w (sumWhere s (ownCell s q)) (r .count) places (h .listed)))));
+    side = λ k l. subst (λ (x : ℕ). (x + (at + n) ≤ r .to) ⊎ (r .to + (at + n) ≤ x)) (sym (first-at places (r .count) (omega (arith, h′ .few, h′ .listed .long)) k l))
+        (⊎-elim (λ z. inl (omega (arith, w .ends))) (λ z. inr (omega (arith, w .ends))) (h′ .apart k (omega (arith, listed-long s stripe at n w (sumWhere s (ownCell s q)) (r .count) places (h′ .listed)))));
   }
 
   pub parity-ends : r .to + at + n ≤ length stripe
-  parity-ends = omega (arith, h .ends, w .long, w .ends)
-
-  -- byte t of the sum
-  used-sum : (bytes : List ℕ) (t : ℕ) → sumAt bytes (take (r .count) places) t ≡ sumWhere s (ownCell s q) (bytesAt s bytes t)
-  used-sum = listed-sum s stripe at n w (sumWhere s (ownCell s q)) (r .count) places (h .listed)
+  parity-ends = omega (arith, h′ .ends, w .long, w .ends)
 
   module _ (lq : q < equations s) where
-    pub own-set : (new : List ℕ) → Put stripe (r .to + at) n (λ t. sumAt stripe (take (r .count) places) (at + t)) new → ParityPut s q at n (λ i. sumWhere s (ownCell s q) (bytesAt s stripe (at + i))) stripe new
-    own-set new put = parity-put s stripe at n w q lq (r .to) (h .to) (λ i. sumWhere s (ownCell s q) (bytesAt s stripe (at + i))) new (listed-put s stripe at n w (sumWhere s (ownCell s q)) (r .count) places (h .listed) stripe new (r .to + at) put)
+    pub own-set : (new : List ℕ) (b : Bool) → Summed stripe (r .to + at) n (λ t. sumAt stripe (take (r .count) places) (at + t)) new b
+        → ParityPut s q at n (λ i. sumWhere s (ownCell s q) (bytesAt s stripe (at + i))) stripe new × ParityZero s q at n new b
+    own-set new b h =
+        let sum : ℕ → ℕ = λ (i : ℕ). sumWhere s (ownCell s q) (bytesAt s stripe (at + i)) in
+        let own = listed-summed s stripe at n w (sumWhere s (ownCell s q)) (r .count) places (h′ .listed) stripe new (r .to + at) b h in
+        (parity-put s stripe at n w q lq (r .to) (h′ .to) sum new (own .put), parity-zero s stripe at n w q lq (r .to) (h′ .to) sum new b own)
 
-    -- the run at the parity cell and those of the equation's own cells sum to what it has by itself
-    own-with : (t : ℕ) → withOwn stripe (take (r .count) places) (r .to) t ≡ ownTotal s q (bytesAt s stripe t)
-    unfolding withOwn
-    own-with t = ap₂ _⊕_ (sym (own-byte s stripe at n w q lq (r .to) (h .to) stripe t)) (used-sum stripe t)
+-- ---- whether an equation fails
 
-    -- the equation fails where that is not zero, or not what is shared
-    pub fails-own : takesShared s q ≡ false → (b : Bool) → Says ((t : ℕ) → t < n → withOwn stripe (take (r .count) places) (r .to) (at + t) ≡ 0) b → not b ≡ failsIn s stripe q at n
-    fails-own plain b test =
-        fails-says s stripe q at n b
-        (says-zero n (λ t. withOwn stripe (take (r .count) places) (r .to) (at + t)) (λ t. total s q (bytesAt s stripe (at + t))) b (λ t l. own-with (at + t) ∙ own-total s q plain (bytesAt s stripe (at + t))) test)
+module _ (s : Shape) (stripe : List ℕ) (at n : ℕ) (w : Window s stripe at n) (q : ℕ) where
+  -- it fails where what it has by itself is not zero, or not what is shared
+  pub fails-own : takesShared s q ≡ false → (b : Bool) → Says ((i : ℕ) → i < n → ownTotal s q (bytesAt s stripe (at + i)) ≡ 0) b → not b ≡ failsIn s stripe q at n
+  fails-own plain b test =
+      fails-says s stripe q at n b
+      (says-zero n (λ i. ownTotal s q (bytesAt s stripe (at + i))) (λ i. total s q (bytesAt s stripe (at + i))) b (λ i l. own-total s q plain (bytesAt s stripe (at + i))) test)
 
-    pub fails-shared : takesShared s q ≡ true → (shared : List ℕ) → Shares s stripe at n shared → (b : Bool) → Says ((t : ℕ) → t < n → withOwn stripe (take (r .count) places) (r .to) (at + t) ⊕ getD shared t 0 ≡ 0) b → not b ≡ failsIn s stripe q at n
-    fails-shared takes shared part b test =
-        fails-says s stripe q at n b
-        (says-zero n (λ t. withOwn stripe (take (r .count) places) (r .to) (at + t) ⊕ getD shared t 0) (λ t. total s q (bytesAt s stripe (at + t))) b
-        (λ t l. ap₂ _⊕_ (own-with (at + t)) (part .is (takes-shares s q takes) t l) ∙ shared-total s (w .formed) q takes (bytesAt s stripe (at + t))) test)
+  pub fails-shared : takesShared s q ≡ true → (shared : List ℕ) → Shares s stripe at n shared → (b : Bool) → Says ((i : ℕ) → i < n → ownTotal s q (bytesAt s stripe (at + i)) ⊕ getD shared i 0 ≡ 0) b → not b ≡ failsIn s stripe q at n
+  fails-shared takes shared part b test =
+      fails-says s stripe q at n b
+      (says-zero n (λ i. ownTotal s q (bytesAt s stripe (at + i)) ⊕ getD shared i 0) (λ i. total s q (bytesAt s stripe (at + i))) b
+      (λ i l. ap (λ (x : ℕ). ownTotal s q (bytesAt s stripe (at + i)) ⊕ x) (part .is (takes-shares s q takes) i l) ∙ shared-total s (w .formed) q takes (bytesAt s stripe (at + i))) test)
 
 -- ---- with what is shared
 
@@ -195,16 +196,19 @@ module _ (s : Shape) (stripe : List ℕ) (at n : ℕ) where
       others = put .others;
     }
 
-    pub total-plain : takesShared s q ≡ false → (into into′ : List ℕ) (to : ℕ) → Put into to n (λ i. ownTotal s q (bytesAt s stripe (at + i))) into′ → Put into to n (λ i. total s q (bytesAt s stripe (at + i))) into′
-    total-plain plain into into′ to put =
-        put-same into into′ to n (λ i. ownTotal s q (bytesAt s stripe (at + i))) (λ i. total s q (bytesAt s stripe (at + i))) put (λ i l. own-total s q plain (bytesAt s stripe (at + i)))
+    pub total-plain : takesShared s q ≡ false → (into into′ : List ℕ) (to : ℕ) (r : Bool) → Summed into to n (λ i. ownTotal s q (bytesAt s stripe (at + i))) into′ r → Summed into to n (λ i. total s q (bytesAt s stripe (at + i))) into′ r
+    total-plain plain into into′ to r h =
+        summed-same into into′ to n (λ i. ownTotal s q (bytesAt s stripe (at + i))) (λ i. total s q (bytesAt s stripe (at + i))) r h (λ i l. own-total s q plain (bytesAt s stripe (at + i)))
 
-    pub total-shared : takesShared s q ≡ true → (shared : List ℕ) → Shares s stripe at n shared → (into mid into′ : List ℕ) (to : ℕ) → Put into to n (λ i. ownTotal s q (bytesAt s stripe (at + i))) mid
-        → Put mid to n (λ i. getD mid (to + i) 0 ⊕ getD shared i 0) into′ → Put into to n (λ i. total s q (bytesAt s stripe (at + i))) into′
-    total-shared takes shared part into mid into′ to one two = record {
-      long = two .long ∙ one .long;
-      inner = λ i l. two .inner i l ∙ ap₂ _⊕_ (one .inner i l) (part .is (takes-shares s q takes) i l) ∙ shared-total s w q takes (bytesAt s stripe (at + i));
-      outer = λ i side. two .outer i side ∙ one .outer i side;
+    pub total-shared : takesShared s q ≡ true → (shared : List ℕ) → Shares s stripe at n shared → (into mid into′ : List ℕ) (to : ℕ) (r : Bool) → Put into to n (λ i. ownTotal s q (bytesAt s stripe (at + i))) mid
+        → Summed mid to n (λ i. getD mid (to + i) 0 ⊕ getD shared i 0) into′ r → Summed into to n (λ i. total s q (bytesAt s stripe (at + i))) into′ r
+    total-shared takes shared part into mid into′ to r one two = record {
+      put = record {
+        long = two .put .long ∙ one .long;
+        inner = λ i l. two .put .inner i l ∙ ap₂ _⊕_ (one .inner i l) (part .is (takes-shares s q takes) i l) ∙ shared-total s w q takes (bytesAt s stripe (at + i));
+        outer = λ i side. two .put .outer i side ∙ one .outer i side;
+      };
+      zero = two .zero;
     }
 
 -- the first byte that is not zero is there where the equation fails
@@ -219,12 +223,12 @@ failing-at s stripe q at n f is r p found =
 module _ (s : Shape) (stripe : List ℕ) (q at n : ℕ) (w : WellFormed s) (takes : takesShared s q ≡ true) (shared sum : List ℕ) (part : Shares s stripe at n shared)
     (put : Put shared 0 n (λ i. getD shared (0 + i) 0 ⊕ ownTotal s q (bytesAt s stripe (at + i))) sum) where
   pub buffer-inside : Inside (length sum) (0 ∷ []) (0 + n)
-  buffer-inside = one-inside sum n (omega (arith, put .long, part .long (takes-shares s q takes)))
+  buffer-inside = one-inside sum 0 (0 + n) (omega (arith, put .long, part .long (takes-shares s q takes)))
 
   pub buffer-failing : (r : ℕ) → failsIn s stripe q at n ≡ true → NonzeroAt (λ t. sumAt sum (0 ∷ []) (0 + t)) n r → (r < n) × (total s q (bytesAt s stripe (at + r)) ≢ 0)
   buffer-failing =
       failing-at s stripe q at n (λ t. sumAt sum (0 ∷ []) (0 + t))
-      (λ i l. one-sum sum i ∙ ap (λ (k : ℕ). getD sum k 0) (sym (zero-add i)) ∙ put .inner i l
+      (λ i l. one-sum sum 0 (0 + i) ∙ ap (λ (k : ℕ). getD sum k 0) (zero-add (0 + i)) ∙ put .inner i l
       ∙ ap (λ (x : ℕ). x ⊕ ownTotal s q (bytesAt s stripe (at + i))) (ap (λ (k : ℕ). getD shared k 0) (zero-add i) ∙ part .is (takes-shares s q takes) i l)
       ∙ ⊕-comm (sharedSum s (bytesAt s stripe (at + i))) (ownTotal s q (bytesAt s stripe (at + i))) ∙ shared-total s w q takes (bytesAt s stripe (at + i)))
 

@@ -6,6 +6,7 @@ use Prim.Native.Nat.{ℕ, _+_, _≤_, _<_}
 use lib.Dec.{eqb}
 use lib.ListN.{length, getD}
 use Rattle.xor.specs.Sets.{any}
+use Rattle.xor.specs.Runs.{Says}
 use Rattle.codes.specs.declared.Shape.{Shape}
 use Rattle.codes.specs.Shape.{cells, stripeLength, WellFormed}
 use Rattle.codes.specs.Encoded.{parityCell, byteAt, parityByte, total}
@@ -39,6 +40,10 @@ pub record ParityPut (s : Shape) (q at n : ℕ) (value : ℕ → ℕ) (old new :
 -- new is old with the window of equation q's parity cell set to the XOR of the cells that the equation sums
 abbrev pub ParitySet : Shape → ℕ → ℕ → ℕ → List ℕ → List ℕ → Type 0
 ParitySet s q at n old new = ParityPut s q at n (λ i. parityByte s old q (at + i)) old new
+
+-- r says whether the window of equation q's parity cell is all zero
+abbrev pub ParityZero : Shape → ℕ → ℕ → ℕ → List ℕ → Bool → Type 0
+ParityZero s q at n stripe r = Says ((i : ℕ) → i < n → byteAt s stripe (parityCell s q) (at + i) ≡ 0) r
 
 -- whether equation q fails in one of n bytes from byte `at` on: its total is not zero there
 unfoldable pub failsIn : Shape → List ℕ → ℕ → ℕ → ℕ → Bool

@@ -6,12 +6,12 @@ ghost use mathlib.Core.Bool.{true, false};
 ghost use Prim.Native.Nat.{ℕ, _+_, _≤_, _<_};
 ghost use lib.ListN.{length, getD};
 ghost use Rattle.xor.specs.Xor.{_⊕_};
-ghost use Rattle.xor.specs.Runs.{Put};
+ghost use Rattle.xor.specs.Runs.{Put, Summed};
 ghost use Rattle.bits.specs.Bit.{IsLowest};
 ghost use Rattle.codes.specs.Shape.{equations, stripeLength, WellFormed};
 ghost use Rattle.codes.specs.Encoded.{total};
 ghost use Rattle.codes.specs.Lines.{shares, takesShared, ownCell, sumWhere, ownTotal};
-ghost use Rattle.equation.specs.Window.{bytesAt, Window, Shares, SharedByte, ParityPut, ParitySet, failsIn};
+ghost use Rattle.equation.specs.Window.{bytesAt, Window, Shares, SharedByte, ParityPut, ParitySet, ParityZero, failsIn};
 use codes::Shape;
 
 // Puts n bytes of what several equations share into the first n of `shared`, which are zeros.
@@ -38,39 +38,47 @@ pub fn shared_byte(shape: Shape, stripe: &[u8], t: usize) -> u8
     xor::sum_byte(stripe, &places[..count], t)
 }
 
-// XORs n bytes of what is shared into those from `to` on.
-fn add_shared(into: &mut [u8], to: usize, shared: &[u8], n: usize)
+// XORs n bytes of what is shared into those from `to` on. Answers whether they are all zero now.
+fn add_shared(into: &mut [u8], to: usize, shared: &[u8], n: usize) -> bool
     requires { ⌜ (to + n ≤ length (now into)) × (n ≤ length (now shared)) ⌝ }
-    ensures { λ _. ⌜ Put (now (into .entry)) to n (λ i. getD (now (into .entry)) (to + i) 0 ⊕ getD (now (shared .entry)) i 0) (now (into .exit)) ⌝ }
+    ensures { λ r. ⌜ Summed (now (into .entry)) to n (λ i. getD (now (into .entry)) (to + i) 0 ⊕ getD (now (shared .entry)) i 0)
+        (now (into .exit)) r ⌝ }
 {
     let places = [0usize; 1];
-    xor::add_shared(into, to, shared, &places[..1], 0, n);
+    xor::add_shared(into, to, shared, &places[..1], 0, n)
 }
 
-// Sets n bytes of the parity cell of equation q to the XOR of the cells that the equation sums by itself.
-fn set_own(shape: Shape, stripe: &mut [u8], q: usize, at: usize, n: usize)
+// Sets n bytes of the parity cell of equation q to the XOR of the cells that the equation sums by itself. Answers whether they are all zero.
+fn set_own(shape: Shape, stripe: &mut [u8], q: usize, at: usize, n: usize) -> bool
     requires { ⌜ Window shape (now stripe) at n × (q < equations shape) ⌝ }
-    ensures { λ _. ⌜ ParityPut shape q at n (λ i. sumWhere shape (ownCell shape q) (bytesAt shape (now (stripe .entry)) (at + i)))
-        (now (stripe .entry)) (now (stripe .exit)) ⌝ }
+    ensures { λ r. ⌜ ParityPut shape q at n (λ i. sumWhere shape (ownCell shape q) (bytesAt shape (now (stripe .entry)) (at + i)))
+        (now (stripe .entry)) (now (stripe .exit)) × ParityZero shape q at n (now (stripe .exit)) r ⌝ }
 {
     let mut places = [0usize; codes::PLACES];
     let from = codes::sources_of(shape, q, &mut places);
     let to = from.to;
     let count = from.count;
-    xor::put_sum(stripe, &places[..count], to, at, n);
+    xor::put_sum(stripe, &places[..count], to, at, n)
 }
 
-// Sets n bytes of the parity cell of equation q to the XOR of the cells that the equation sums.
-pub fn set_parity(shape: Shape, stripe: &mut [u8], q: usize, at: usize, n: usize, shared: &[u8])
+// Sets n bytes of the parity cell of equation q to the XOR of the cells that the equation sums. Answers whether they are all zero.
+pub fn set_parity(
+    shape: Shape,
+    stripe: &mut [u8],
+    q: usize,
+    at: usize,
+    n: usize,
+    shared: &[u8],
+) -> bool
     requires { ⌜ Window shape (now stripe) at n × (q < equations shape) × Shares shape (now stripe) at n (now shared) ⌝ }
-    ensures { λ _. ⌜ ParitySet shape q at n (now (stripe .entry)) (now (stripe .exit)) ⌝ }
+    ensures { λ r. ⌜ ParitySet shape q at n (now (stripe .entry)) (now (stripe .exit)) × ParityZero shape q at n (now (stripe .exit)) r ⌝ }
 {
-    set_own(shape, stripe, q, at, n);
+    let zero = set_own(shape, stripe, q, at, n);
     if !codes::takes_shared(shape, q) {
-        return;
+        return zero;
     }
     let to = codes::parity_place(shape, q) + at;
-    add_shared(stripe, to, shared, n);
+    add_shared(stripe, to, shared, n)
 }
 
 // Whether equation q, which nothing shared is a part of, fails in one of n bytes.
@@ -79,10 +87,8 @@ pub fn fails(shape: Shape, stripe: &[u8], q: usize, at: usize, n: usize) -> bool
     ensures { λ r. ⌜ r ≡ failsIn shape (now (stripe .entry)) q at n ⌝ }
 {
     let mut places = [0usize; codes::PLACES];
-    let from = codes::sources_of(shape, q, &mut places);
-    let to = from.to;
-    let count = from.count;
-    !xor::is_sum(stripe, &places[..count], to, at, n)
+    let count = codes::cells_of(shape, q, &mut places);
+    !xor::sums_to_zero(stripe, &places[..count], at, n)
 }
 
 // Whether equation q, which what is shared is a part of, fails in one of n bytes. Apart from the other, so that each is compiled by itself.
@@ -92,10 +98,8 @@ pub fn fails_with(shape: Shape, stripe: &[u8], q: usize, at: usize, n: usize, sh
     ensures { λ r. ⌜ r ≡ failsIn shape (now (stripe .entry)) q at n ⌝ }
 {
     let mut places = [0usize; codes::PLACES];
-    let from = codes::sources_of(shape, q, &mut places);
-    let to = from.to;
-    let count = from.count;
-    !xor::is_sum_with(stripe, &places[..count], to, at, n, shared)
+    let count = codes::cells_of(shape, q, &mut places);
+    !xor::sums_to_zero_with(stripe, &places[..count], at, n, shared)
 }
 
 // The first equation that fails in one of n bytes, with what is shared; the number of equations where none does.
@@ -133,17 +137,26 @@ pub fn first_failing(shape: Shape, stripe: &[u8], at: usize, n: usize) -> usize
     first_failing_with(shape, stripe, at, n, &shared)
 }
 
-// Puts n bytes of the XOR of the cells that equation q has by itself into the bytes from `to` on.
-fn put_own(shape: Shape, stripe: &[u8], q: usize, at: usize, n: usize, into: &mut [u8], to: usize)
+// Puts n bytes of the XOR of the cells that equation q has by itself into the bytes from `to` on. Answers whether they are all zero.
+fn put_own(
+    shape: Shape,
+    stripe: &[u8],
+    q: usize,
+    at: usize,
+    n: usize,
+    into: &mut [u8],
+    to: usize,
+) -> bool
     requires { ⌜ Window shape (now stripe) at n × (q < equations shape) × (to + n ≤ length (now into)) ⌝ }
-    ensures { λ _. ⌜ Put (now (into .entry)) to n (λ i. ownTotal shape q (bytesAt shape (now (stripe .entry)) (at + i))) (now (into .exit)) ⌝ }
+    ensures { λ r. ⌜ Summed (now (into .entry)) to n (λ i. ownTotal shape q (bytesAt shape (now (stripe .entry)) (at + i))) (now (into .exit)) r ⌝ }
 {
     let mut places = [0usize; codes::PLACES];
     let count = codes::cells_of(shape, q, &mut places);
-    xor::put_sum_from(into, to, stripe, &places[..count], at, n);
+    xor::put_sum_from(into, to, stripe, &places[..count], at, n)
 }
 
-// Puts n bytes of the total of equation q, the XOR of all its cells, into the bytes from `to` on.
+// Puts n bytes of the total of equation q, the XOR of all its cells, into the bytes from `to` on. Answers whether they are all zero: the
+// equation holds there.
 pub fn put_total(
     shape: Shape,
     stripe: &[u8],
@@ -153,16 +166,17 @@ pub fn put_total(
     shared: &[u8],
     into: &mut [u8],
     to: usize,
-)
+) -> bool
     requires { ⌜ Window shape (now stripe) at n × (q < equations shape) × (to + n ≤ length (now into))
         × Shares shape (now stripe) at n (now shared) ⌝ }
-    ensures { λ _. ⌜ Put (now (into .entry)) to n (λ i. total shape q (bytesAt shape (now (stripe .entry)) (at + i))) (now (into .exit)) ⌝ }
+    ensures { λ r. ⌜ Summed (now (into .entry)) to n (λ i. total shape q (bytesAt shape (now (stripe .entry)) (at + i))) (now (into .exit)) r ⌝ }
 {
-    put_own(shape, stripe, q, at, n, into, to);
+    let own = put_own(shape, stripe, q, at, n, into, to);
     if !codes::takes_shared(shape, q) {
-        return;
+        return own;
     }
-    add_shared(into, to, shared, n);
+    let all = add_shared(into, to, shared, n);
+    all
 }
 
 // The XOR of the cells that equation q has by itself, in byte t.

@@ -2,20 +2,22 @@
 use mathlib.Core.Path.{_≡_, refl, sym, ap, ap₂, _∙_, subst}
 use mathlib.Core.Logic.{_≢_, _⊎_, inl, inr, ⊎-elim}
 use mathlib.Core.List.{List}
-use mathlib.Core.Bool.{Bool, true, false, cond, _&&_, and-false}
-use Prim.Native.Nat.{ℕ, zero, suc, _+_, _-_, _*_, _≤_, _<_}
+use mathlib.Core.Bool.{Bool, true, false, cond, not, _&&_, _||_, and-false}
+use Prim.Native.Nat.{ℕ, zero, suc, _+_, _-_, _*_, _^_, _≤_, _<_}
 use native.Mathlib.Nat.{mul-one, zero-add, add-assoc}
 use native.Mathlib.Omega.{arith}
+use lib.Bits.{bitAnd, bitOr}
 use lib.Dec.{eqb, leb, ltb}
 use lib.ListN.{length, getD, take}
-use borrow.Author.Tests.{eq-eqb, ne-eqb, lt-ltb, le-ltb, le-leb, lt-leb}
+use borrow.Author.Tests.{eq-eqb, ne-eqb, eqb-true, lt-ltb, le-ltb, le-leb, lt-leb}
 use Rattle.xor.specs.Xor.{_⊕_, xors}
-use Rattle.xor.specs.Runs.{sumAt, addedTo, Inside, Put, Says}
-use Rattle.xor.proofs.Cases.{by-test, by-equal, by-less, clash, not-passed}
+use Rattle.xor.specs.Runs.{sumAt, addedTo, Inside, Put, Says, NonzeroAt}
+use Rattle.xor.proofs.Cases.{by-test, by-equal, by-less, clash, not-passed, same-test, and-left, and-right, and-both, either, or-right}
 use Rattle.xor.proofs.Algebra.{⊕-zero, ⊕-assoc}
-use Rattle.xor.proofs.Sums.{xors-none, xors-more, xors-same}
-use Rattle.xor.proofs.Runs.{first-inside, first-sum, put-same, says-same}
+use Rattle.xor.proofs.Sums.{nothing, xors-none, xors-more, xors-same, xors-zero}
+use Rattle.xor.proofs.Runs.{first-inside, first-sum, put-same, says-same, says-zero, nonzero-says}
 use Rattle.bits.specs.Bit.{bit, Members, Union}
+use Rattle.bits.proofs.Bits.{bit-and, bit-or, bit-zero, bit-power}
 use Rattle.codes.specs.declared.Shape.{Shape}
 use Rattle.codes.specs.Shape.{cells, equations, WellFormed}
 use Rattle.codes.specs.Encoded.{byteAt, total}
@@ -24,8 +26,9 @@ use Rattle.codes.specs.Geometry.{cellThere, place}
 use Rattle.codes.proofs.Geometry.{place-apart, byte-there, byte-same}
 use Rattle.codes.proofs.Solutions.{total-same}
 use Rattle.decide.specs.Solver.{summed, mended, Sets}
-use Rattle.equation.specs.Window.{bytesAt}
-use Rattle.lanes.specs.Lanes.{laneSum, Totals, Passes, LanesOf, Filled, Mends}
+use Rattle.equation.specs.Window.{bytesAt, failsIn}
+use Rattle.equation.proofs.Windows.{not-failing}
+use Rattle.lanes.specs.Lanes.{laneSum, Totals, Failing, Passes, LanesOf, Filled, Mends}
 
 -- ---- the totals of equations
 
@@ -63,6 +66,66 @@ module _ (s : Shape) (stripe : List ℕ) (at n : ℕ) where
         ap (λ (q : ℕ). getD lanes (q * 512 + i) 0) (sym is) ∙ h .lane (found .0) (omega (arith, found .1)) i l ∙ ap (λ (q : ℕ). total s q (bytesAt s stripe (at + i))) is;
   }
 
+  -- ---- which of them fail
+
+  -- of the first k numbers of a list, those that fail
+  pub record FailingTo (list : List ℕ) (k failing : ℕ) : Type 0 where
+    pub within : (q : ℕ) → bit q failing ≡ true → (j : ℕ) × (j < k) × (getD list j 0 ≡ q)
+    pub fails : (j : ℕ) → j < k → bit (getD list j 0) failing ≡ failsIn s stripe (getD list j 0) at n
+
+  pub failing-none : (list : List ℕ) → FailingTo list 0 0
+  failing-none list = record { within = λ q p. clash p (bit-zero q); fails = λ j l. absurd (omega arith) }
+
+  module _ (list : List ℕ) (k failing : ℕ) (h : FailingTo list k failing) where
+    -- one more, of which the mask says already what it should
+    failing-next : (mask : ℕ) → ((q : ℕ) → bit q mask ≡ true → (bit q failing ≡ true) ⊎ (getD list k 0 ≡ q)) → ((q : ℕ) → q ≢ getD list k 0 → bit q mask ≡ bit q failing)
+        → bit (getD list k 0) mask ≡ failsIn s stripe (getD list k 0) at n → FailingTo list (k + 1) mask
+    failing-next mask made same here = record {
+      within = λ q p. ⊎-elim (λ old. let found = h .within q old in (found .0, omega (arith, found .1), found .2)) (λ e. (k, omega arith, e)) (made q p);
+      fails = λ j l. by-equal (getD list j 0) (getD list k 0)
+          (λ e. ap (λ (q : ℕ). bit q mask) e ∙ here ∙ ap (λ (q : ℕ). failsIn s stripe q at n) (sym e))
+          (λ e. same (getD list j 0) e ∙ h .fails j (by-equal j k (λ z. absurd (e (ap (λ (i : ℕ). getD list i 0) z))) (λ z. omega arith)));
+    }
+
+    pub failing-not : failsIn s stripe (getD list k 0) at n ≡ false → FailingTo list (k + 1) failing
+    failing-not holds =
+        failing-next failing (λ q p. inl p) (λ q e. refl)
+        (not-passed (λ p. let found = h .within (getD list k 0) p in
+        clash p (ap (λ (q : ℕ). bit q failing) (sym (found .2)) ∙ h .fails (found .0) (found .1) ∙ ap (λ (q : ℕ). failsIn s stripe q at n) (found .2) ∙ holds)) ∙ sym holds)
+
+    pub failing-more : (one : ℕ) → one ≡ 2 ^ getD list k 0 → failsIn s stripe (getD list k 0) at n ≡ true → FailingTo list (k + 1) (bitOr failing one)
+    failing-more one e fail =
+        failing-next (bitOr failing one)
+        (λ q p. either (bit q failing) (eqb q (getD list k 0)) (sym (is q) ∙ p) (λ old. inl old) (λ new. inr (sym (eqb-true q (getD list k 0) new))))
+        (λ q off. is q ∙ ap (λ (b : Bool). bit q failing || b) (ne-eqb q (getD list k 0) off) ∙ or-nothing (bit q failing))
+        (is (getD list k 0) ∙ or-right (bit (getD list k 0) failing) (eq-eqb (getD list k 0) (getD list k 0) refl) ∙ sym fail)
+      where
+        is : (q : ℕ) → bit q (bitOr failing one) ≡ (bit q failing || eqb q (getD list k 0))
+        is q = bit-or q failing one ∙ ap (λ (m : ℕ). bit q failing || bit q m) e ∙ ap (λ (b : Bool). bit q failing || b) (bit-power q (getD list k 0))
+
+        or-nothing : (b : Bool) → (b || false) ≡ b
+        or-nothing true = refl
+        or-nothing false = refl
+
+  pub failing-all : WellFormed s → (set count : ℕ) (list : List ℕ) (k failing : ℕ) → ((r : ℕ) → bit r set ≡ true → r < equations s) → Members set 1 count list → k ≡ count → FailingTo list k failing
+      → Failing s stripe set at n failing
+  failing-all w set count list k failing below members end h q = same-test there back
+    where
+      there : bit q failing ≡ true → (bit q set && failsIn s stripe q at n) ≡ true
+      there p =
+          let found = h .within q p in
+          let member = members .member (found .0) (omega (arith, found .1)) in
+          let is : member .0 ≡ q = sym (mul-one (member .0)) ∙ sym (member .3) ∙ found .2 in
+          and-both (ap (λ (r : ℕ). bit r set) (sym is) ∙ member .2)
+          (ap (λ (r : ℕ). failsIn s stripe r at n) (sym (found .2)) ∙ sym (h .fails (found .0) (found .1)) ∙ ap (λ (r : ℕ). bit r failing) (found .2) ∙ p)
+
+      back : (bit q set && failsIn s stripe q at n) ≡ true → bit q failing ≡ true
+      back p =
+          let inside = and-left (bit q set) (failsIn s stripe q at n) p in
+          let found = members .all q (omega (arith, below q inside, small-equations s w)) inside in
+          let is : getD list (found .0) 0 ≡ q = found .2 ∙ mul-one q in
+          ap (λ (r : ℕ). bit r failing) (sym is) ∙ h .fails (found .0) (omega (arith, found .1)) ∙ ap (λ (r : ℕ). failsIn s stripe r at n) is ∙ and-right (bit q set) (failsIn s stripe q at n) p
+
 -- ---- sums of lanes
 
 module _ (lanes : List ℕ) (set count : ℕ) (places : List ℕ) (h : Members set 512 count places) where
@@ -74,16 +137,22 @@ module _ (lanes : List ℕ) (set count : ℕ) (places : List ℕ) (h : Members s
   unfolding laneSum
   lane-sum i = first-sum places count (omega (arith, h .few, h .long)) lanes i ∙ h .sum (λ p. getD lanes (p + i) 0)
 
-  pub lanes-say : (n : ℕ) (r : Bool) → Says ((i : ℕ) → i < n → sumAt lanes (take count places) i ≡ 0) r → Says ((i : ℕ) → i < n → laneSum lanes set i ≡ 0) r
-  lanes-say n r =
-      says-same ((i : ℕ) → i < n → sumAt lanes (take count places) i ≡ 0) ((i : ℕ) → i < n → laneSum lanes set i ≡ 0) r
-      (λ z i l. sym (lane-sum i) ∙ z i l) (λ z i l. lane-sum i ∙ z i l)
+  pub lanes-say : (n r : ℕ) → NonzeroAt (λ i. sumAt lanes (take count places) (0 + i)) n r → Says ((i : ℕ) → i < n → laneSum lanes set i ≡ 0) (eqb r n)
+  lanes-say n r h =
+      says-zero n (λ i. sumAt lanes (take count places) (0 + i)) (λ i. laneSum lanes set i) (eqb r n) (λ i l. ap (sumAt lanes (take count places)) (zero-add i) ∙ lane-sum i)
+      (nonzero-says (λ i. sumAt lanes (take count places) (0 + i)) n r h)
 
   pub lanes-added : (d d′ : List ℕ) (to n : ℕ) → Put d to n (addedTo d to lanes (take count places) 0) d′ → Put d to n (λ i. getD d (to + i) 0 ⊕ laneSum lanes set i) d′
   unfolding addedTo
   lanes-added d d′ to n put =
       put-same d d′ to n (addedTo d to lanes (take count places) 0) (λ i. getD d (to + i) 0 ⊕ laneSum lanes set i) put
       (λ i l. ap (λ (x : ℕ). getD d (to + i) 0 ⊕ x) (ap (sumAt lanes (take count places)) (zero-add i) ∙ lane-sum i))
+
+-- the lanes of no equation
+pub no-lanes : (lanes : List ℕ) (set i : ℕ) → set ≡ 0 → laneSum lanes set i ≡ 0
+unfolding laneSum
+no-lanes lanes set i e =
+    xors-same 64 (λ r. cond (bit r set) (getD lanes (r * 512 + i) 0) 0) (λ r. 0) (λ r l. ap (λ (b : Bool). cond b (getD lanes (r * 512 + i) 0) 0) (ap (bit r) e ∙ bit-zero r)) ∙ xors-zero 64 (λ r. 0) (λ r l. refl)
 
 -- zeros at the end of a sum
 xors-cut : (n m : ℕ) (f : ℕ → ℕ) → m ≤ n → ((k : ℕ) → m ≤ k → k < n → f k ≡ 0) → xors n f ≡ xors m f
@@ -104,13 +173,29 @@ module _ (s : Shape) (w : WellFormed s) (stripe : List ℕ) (set at n : ℕ) (la
       ∙ xors-cut 64 (equations s) (λ r. cond (bit r m) (total s r (bytesAt s stripe (at + i))) 0) (omega (arith, small-equations s w))
       (λ r lo hi. ap (λ (b : Bool). cond b (total s r (bytesAt s stripe (at + i))) 0) (not-passed (λ p. let low = below r p in absurd (omega arith))))
 
-  -- the lanes of sets tell whether the stripe passes the checks
-  pub checks-say : (v : ℕ) (checks : List ℕ) (r : Bool) → Sets s v checks → Union v checks set
-      → Says ((j : ℕ) → j < v → (i : ℕ) → i < n → laneSum lanes (getD checks j 0) i ≡ 0) r → Says ((i : ℕ) → i < n → Passes s stripe v checks (at + i)) r
-  checks-say v checks r sets union =
-      says-same ((j : ℕ) → j < v → (i : ℕ) → i < n → laneSum lanes (getD checks j 0) i ≡ 0) ((i : ℕ) → i < n → Passes s stripe v checks (at + i)) r
-      (λ z i l. record { zero = λ j lj. sym (totals-sum (getD checks j 0) (union .within j lj) (sets .below j lj) i l) ∙ z j lj i l })
-      (λ z j lj i l. totals-sum (getD checks j 0) (union .within j lj) (sets .below j lj) i l ∙ z i l .zero j lj)
+  module _ (failing : ℕ) (exact : Failing s stripe set at n failing) where
+    -- of a set in it those that don't fail may be left out
+    failing-sum : (m : ℕ) → ((r : ℕ) → bit r m ≡ true → bit r set ≡ true) → (i : ℕ) → i < n → laneSum lanes (bitAnd m failing) i ≡ laneSum lanes m i
+    unfolding laneSum
+    failing-sum m within i l =
+        xors-same 64 (λ r. cond (bit r (bitAnd m failing)) (getD lanes (r * 512 + i) 0) 0) (λ r. cond (bit r m) (getD lanes (r * 512 + i) 0) 0)
+        (λ r lr. ap (λ (b : Bool). cond b (getD lanes (r * 512 + i) 0) 0) (bit-and r m failing) ∙ by-test (bit r m) (λ p. there r p) (λ p. rw p refl))
+      where
+        there : (r : ℕ) → bit r m ≡ true → cond (bit r m && bit r failing) (getD lanes (r * 512 + i) 0) 0 ≡ cond (bit r m) (getD lanes (r * 512 + i) 0) 0
+        there r p =
+            by-test (failsIn s stripe r at n) (λ fail. ap (λ (b : Bool). cond (bit r m && b) (getD lanes (r * 512 + i) 0) 0) (exact r ∙ and-both (within r p) fail) ∙ rw p refl)
+            (λ hold. let none : getD lanes (r * 512 + i) 0 ≡ 0 = h .holds r (within r p) i l ∙ not-failing s stripe r at n hold i l in
+            nothing (bit r m && bit r failing) (getD lanes (r * 512 + i) 0) none ∙ sym (nothing (bit r m) (getD lanes (r * 512 + i) 0) none))
+
+    -- the lanes of sets tell whether the stripe passes the checks
+    pub checks-say : (v : ℕ) (checks : List ℕ) (r : Bool) → Sets s v checks → Union v checks set
+        → Says ((j : ℕ) → j < v → (i : ℕ) → i < n → laneSum lanes (bitAnd (getD checks j 0) failing) i ≡ 0) r → Says ((i : ℕ) → i < n → Passes s stripe v checks (at + i)) r
+    checks-say v checks r sets union =
+        says-same ((j : ℕ) → j < v → (i : ℕ) → i < n → laneSum lanes (bitAnd (getD checks j 0) failing) i ≡ 0) ((i : ℕ) → i < n → Passes s stripe v checks (at + i)) r
+        (λ z i l. record { zero = λ j lj. sym (check j lj i l) ∙ z j lj i l }) (λ z j lj i l. check j lj i l ∙ z i l .zero j lj)
+      where
+        check : (j : ℕ) → j < v → (i : ℕ) → i < n → laneSum lanes (bitAnd (getD checks j 0) failing) i ≡ summed s (getD checks j 0) (bytesAt s stripe (at + i))
+        check j lj i l = failing-sum (getD checks j 0) (union .within j lj) i l ∙ totals-sum (getD checks j 0) (union .within j lj) (sets .below j lj) i l
 
   pub totals-of : (u : ℕ) (sets : List ℕ) → Sets s u sets → Union u sets set → LanesOf s stripe u sets at n lanes
   totals-of u sets h′ union = record { sum = λ k l i li. totals-sum (getD sets k 0) (union .within k l) (h′ .below k l) i li }

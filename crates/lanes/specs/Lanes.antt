@@ -12,7 +12,7 @@ use Rattle.codes.specs.declared.Shape.{Shape}
 use Rattle.codes.specs.Shape.{cells}
 use Rattle.codes.specs.Geometry.{cellThere}
 use Rattle.codes.specs.Encoded.{byteAt, total}
-use Rattle.equation.specs.Window.{bytesAt, Window}
+use Rattle.equation.specs.Window.{bytesAt, Window, failsIn}
 use Rattle.decide.specs.Solver.{summed, mended}
 
 -- how many bytes a lane has, and the lanes of all equations that there may be
@@ -32,6 +32,10 @@ pub record InLane (s : Shape) (stripe : List ℕ) (at n : ℕ) (lanes : List ℕ
 pub record Totals (s : Shape) (stripe : List ℕ) (set at n : ℕ) (lanes : List ℕ) : Type 0 where
   pub long : length lanes ≡ room
   pub holds : (r : ℕ) → bit r set ≡ true → (i : ℕ) → i < n → getD lanes (r * lane + i) 0 ≡ total s r (bytesAt s stripe (at + i))
+
+-- of the equations in a set, those that fail in bytes at to at + n
+abbrev pub Failing : Shape → List ℕ → ℕ → ℕ → ℕ → ℕ → Type 0
+Failing s stripe set at n failing = (q : ℕ) → bit q failing ≡ (bit q set && failsIn s stripe q at n)
 
 -- the XOR of byte i of the lanes in the set
 unfoldable pub laneSum : List ℕ → ℕ → ℕ → ℕ

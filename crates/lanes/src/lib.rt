@@ -4,13 +4,13 @@ ghost use mathlib.Core.Path.{_≡_};
 ghost use mathlib.Core.Bool.{true};
 ghost use Prim.Native.Nat.{ℕ, _+_, _*_, _≤_, _<_};
 ghost use lib.ListN.{length, getD};
-ghost use Rattle.xor.specs.Xor.{_⊕_};
-ghost use Rattle.xor.specs.Runs.{Put, Says};
+ghost use lib.Bits.{bitAnd};
+ghost use Rattle.xor.specs.Runs.{Says};
 ghost use Rattle.bits.specs.Bit.{bit, Union};
 ghost use Rattle.codes.specs.Shape.{equations, stripeLength, WellFormed};
 ghost use Rattle.equation.specs.Window.{Window, Shares};
 ghost use Rattle.decide.specs.Solver.{Sets};
-ghost use Rattle.lanes.specs.Lanes.{lane, room, laneSum, InLane, Totals, Passes, CellsIn, LanesOf, Filled, Mends};
+ghost use Rattle.lanes.specs.Lanes.{lane, room, laneSum, InLane, Totals, Failing, Passes, CellsIn, LanesOf, Filled, Mends};
 use codes::Shape;
 
 // Bytes in a lane.
@@ -19,7 +19,8 @@ const LANE: usize = 512;
 // Bytes in the lanes of all equations that there may be.
 pub const LANES: usize = 32768;
 
-// Sets n bytes of the lane of each equation in a set to its total, from byte `at` of each cell on, with what is shared.
+// Sets n bytes of the lane of each equation in a set to its total, from byte `at` of each cell on, with what is shared. Answers which of them
+// fail there: the lanes of the others are all zero.
 fn put_totals_with(
     shape: Shape,
     stripe: &[u8],
@@ -28,57 +29,57 @@ fn put_totals_with(
     n: usize,
     shared: &[u8],
     lanes: &mut [u8],
-)
+) -> u64
     requires { ⌜ InLane shape (now stripe) at n (now lanes) × ((r : ℕ) → bit r set ≡ true → r < equations shape)
         × Shares shape (now stripe) at n (now shared) ⌝ }
-    ensures { λ _. ⌜ Totals shape (now (stripe .entry)) set at n (now (lanes .exit)) ⌝ }
+    ensures { λ r. ⌜ Totals shape (now (stripe .entry)) set at n (now (lanes .exit)) × Failing shape (now (stripe .entry)) set at n r ⌝ }
 {
     let mut members = [0usize; bits::ROOM];
     let count = bits::list_members(set, 1, &mut members);
+    let mut failing = 0u64;
     let mut k = 0;
     while k < count {
         let q = members[k];
-        equation::put_total(shape, stripe, q, at, n, shared, lanes, q * LANE);
+        if !equation::put_total(shape, stripe, q, at, n, shared, lanes, q * LANE) {
+            failing = failing | bits::one_bit(q);
+        }
         k += 1;
     }
+    failing
 }
 
-// Sets n bytes of the lane of each equation in a set to its total, from byte `at` of each cell on.
-fn put_totals(shape: Shape, stripe: &[u8], set: u64, at: usize, n: usize, lanes: &mut [u8])
+// Sets n bytes of the lane of each equation in a set to its total, from byte `at` of each cell on. Answers which of them fail there.
+fn put_totals(shape: Shape, stripe: &[u8], set: u64, at: usize, n: usize, lanes: &mut [u8]) -> u64
     requires { ⌜ InLane shape (now stripe) at n (now lanes) × ((r : ℕ) → bit r set ≡ true → r < equations shape) ⌝ }
-    ensures { λ _. ⌜ Totals shape (now (stripe .entry)) set at n (now (lanes .exit)) ⌝ }
+    ensures { λ r. ⌜ Totals shape (now (stripe .entry)) set at n (now (lanes .exit)) × Failing shape (now (stripe .entry)) set at n r ⌝ }
 {
     if !codes::shares(shape) {
         // nothing is shared: any bytes will do for it
-        put_totals_with(shape, stripe, set, at, n, stripe, lanes);
-        return;
+        return put_totals_with(shape, stripe, set, at, n, stripe, lanes);
     }
     let mut shared = [0u8; LANE];
     equation::put_shared(shape, stripe, at, n, &mut shared);
-    put_totals_with(shape, stripe, set, at, n, &shared, lanes);
+    put_totals_with(shape, stripe, set, at, n, &shared, lanes)
 }
 
-// Whether the lanes of a set sum to zero in n bytes.
-fn set_agrees(lanes: &[u8], set: u64, n: usize) -> bool
-    requires { ⌜ (length (now lanes) ≡ room) × (n ≤ lane) ⌝ }
-    ensures { λ r. ⌜ Says ((i : ℕ) → i < n → laneSum (now (lanes .entry)) set i ≡ 0) r ⌝ }
+// Whether the lanes of each of the first v sets sum to zero in n bytes, where those of all but the failing equations are zero, and are left
+// out. One list of places serves all sets.
+fn lanes_agree(lanes: &[u8], checks: &[u64; bits::ROOM], v: usize, failing: u64, n: usize) -> bool
+    requires { ⌜ (length (now lanes) ≡ room) × (n ≤ lane) × (v ≤ 64) × (length (now checks) ≡ 64) ⌝ }
+    ensures { λ r. ⌜ Says ((j : ℕ) → j < v → (i : ℕ) → i < n → laneSum (now (lanes .entry)) (bitAnd (getD (now (checks .entry)) j 0) failing) i ≡ 0) r ⌝ }
 {
     let mut places = [0usize; bits::ROOM];
-    let count = bits::list_members(set, LANE, &mut places);
-    xor::sums_to_zero(lanes, &places[..count], n)
-}
-
-// Whether the lanes of each of the first v sets sum to zero in n bytes.
-fn lanes_agree(lanes: &[u8], checks: &[u64; bits::ROOM], v: usize, n: usize) -> bool
-    requires { ⌜ (length (now lanes) ≡ room) × (n ≤ lane) × (v ≤ 64) × (length (now checks) ≡ 64) ⌝ }
-    ensures { λ r. ⌜ Says ((j : ℕ) → j < v → (i : ℕ) → i < n → laneSum (now (lanes .entry)) (getD (now (checks .entry)) j 0) i ≡ 0) r ⌝ }
-{
     let mut j = 0;
     while j < v {
-        if !set_agrees(lanes, checks[j], n) {
+        let set = checks[j] & failing;
+        j += 1;
+        if set == 0 {
+            continue;
+        }
+        let count = bits::list_members(set, LANE, &mut places);
+        if xor::nonzero_at(lanes, &places[..count], 0, n) != n {
             return false;
         }
-        j += 1;
     }
     true
 }
@@ -106,8 +107,8 @@ fn lane_agrees(
     ensures { λ r. ⌜ Says ((i : ℕ) → i < n → Passes shape (now (stripe .entry)) v (now (checks .entry)) (at + i)) r
         × (length (now (lanes .exit)) ≡ room) ⌝ }
 {
-    put_totals(shape, stripe, set, at, n, lanes);
-    lanes_agree(lanes, checks, v, n)
+    let failing = put_totals(shape, stripe, set, at, n, lanes);
+    lanes_agree(lanes, checks, v, failing, n)
 }
 
 // Whether the survivors pass the checks in n bytes from `at` on, lane by lane.
@@ -136,18 +137,7 @@ pub fn survivors_agree(
     true
 }
 
-// XORs the lanes of a set into n bytes of the stripe at `to`.
-fn add_lanes(stripe: &mut [u8], to: usize, lanes: &[u8], set: u64, n: usize)
-    requires { ⌜ (length (now lanes) ≡ room) × (n ≤ lane) × (to + n ≤ length (now stripe)) ⌝ }
-    ensures { λ _. ⌜ Put (now (stripe .entry)) to n (λ i. getD (now (stripe .entry)) (to + i) 0 ⊕ laneSum (now (lanes .entry)) set i)
-        (now (stripe .exit)) ⌝ }
-{
-    let mut places = [0usize; bits::ROOM];
-    let count = bits::list_members(set, LANE, &mut places);
-    xor::add_sum(stripe, to, lanes, &places[..count], 0, n);
-}
-
-// XORs the lanes of its set into each of the first `lost` cells listed, in n bytes from `at` on.
+// XORs the lanes of its set into each of the first `lost` cells listed, in n bytes from `at` on. One list of places serves all sets.
 fn fill_cells(
     shape: Shape,
     stripe: &mut [u8],
@@ -162,10 +152,12 @@ fn fill_cells(
         × LanesOf shape (now stripe) lost (now sets) at n (now lanes) ⌝ }
     ensures { λ _. ⌜ Filled shape (now (listed .entry)) (now (sets .entry)) lost at (at + n) (now (stripe .entry)) (now (stripe .exit)) ⌝ }
 {
+    let mut places = [0usize; bits::ROOM];
     let mut k = 0;
     while k < lost {
         let to = codes::place_of(shape, listed[k]) + at;
-        add_lanes(stripe, to, lanes, sets[k], n);
+        let count = bits::list_members(sets[k], LANE, &mut places);
+        xor::add_sum(stripe, to, lanes, &places[..count], 0, n);
         k += 1;
     }
 }

@@ -1,9 +1,9 @@
 -- Laws of parts, blocks and runs of bytes: one turn of each loop that adds, stores or gathers them.
 use mathlib.Core.Path.{_≡_, refl, sym, ap, ap₂, _∙_, subst}
 use mathlib.Core.Logic.{_≢_, _⊎_, inl, inr, ⊎-elim}
-use mathlib.Core.List.{List}
-use mathlib.Core.Bool.{Bool, true, false}
-use Prim.Native.Nat.{ℕ, _+_, _-_, _≤_, _<_}
+use mathlib.Core.List.{List, [], _∷_}
+use mathlib.Core.Bool.{Bool, true, false, _&&_}
+use Prim.Native.Nat.{ℕ, zero, suc, _+_, _-_, _≤_, _<_}
 use native.Mathlib.Nat.{add-assoc, zero-add}
 use native.Mathlib.Omega.{arith}
 use lib.ListN.{length, getD, set, take, drop, length-set, length-drop, replicate, getD-replicate}
@@ -12,8 +12,8 @@ use lib.Bits.{bitXor, bitOr}
 use lib.Dec.{eqb}
 use borrow.Author.Tests.{eqb-true, eqb-false}
 use Rattle.xor.specs.Xor.{_⊕_, xors}
-use Rattle.xor.specs.Runs.{sumAt, changedBy, addedTo, Inside, Apart, Beside, Added, Put, Says, NonzeroAt}
-use Rattle.xor.proofs.Cases.{by-equal, by-less, clash}
+use Rattle.xor.specs.Runs.{sumAt, changedBy, addedTo, Inside, Apart, Beside, Added, Put, Says, Summed, NonzeroAt}
+use Rattle.xor.proofs.Cases.{by-test, by-equal, by-less, clash, and-left, and-right, and-both}
 use Rattle.xor.proofs.Algebra.{⊕-is, zero-⊕, ⊕-zero, ⊕-comm, ⊕-assoc, or-none-left, or-none-right}
 use Rattle.xor.proofs.Sums.{xors-more, xors-none, xors-same}
 
@@ -99,6 +99,19 @@ runs-last s places sum r r′ n at k e h b =
     ∙ ap₂ _⊕_ (first-sum places k (omega arith) s (at + i)) (ap (λ (x : ℕ). getD s x 0) (add-assoc (getD places k 0) at i))
     ∙ sym (xors-more k (λ j. getD s (getD places j 0 + (at + i)) 0)) ∙ ap (λ (m : ℕ). sumTo s places m (at + i)) e)
 
+-- the run at one place alone
+module _ (bytes : List ℕ) (place : ℕ) where
+  pub one-inside : (n : ℕ) → place + n ≤ length bytes → Inside (length bytes) (place ∷ []) n
+  one-inside n l = record { ends = λ k lk. at-first k lk }
+    where
+      at-first : (k : ℕ) → k < 1 → getD (place ∷ []) k 0 + n ≤ length bytes
+      at-first zero lk = l
+      at-first (suc k) lk = absurd (omega arith)
+
+  pub one-sum : (t : ℕ) → sumAt bytes (place ∷ []) t ≡ getD bytes (place + t) 0
+  unfolding sumAt xors
+  one-sum t = zero-⊕ (getD bytes (place + t) 0)
+
 -- one byte alone of the XOR of the runs
 
 pub byte-more : (s places : List ℕ) (k t sum : ℕ) → sum ≡ sumTo s places k t → bitXor sum (getD s (getD places k 0 + t) 0) ≡ sumTo s places (k + 1) t
@@ -108,138 +121,6 @@ byte-more s places k t sum e =
 pub byte-all : (s places : List ℕ) (k t sum : ℕ) → k ≡ length places → sum ≡ sumTo s places k t → sum ≡ sumAt s places t
 unfolding sumAt
 byte-all s places k t sum e h = h ∙ ap (λ (m : ℕ). sumTo s places m t) e
-
--- ---- bytes stored in a run
-
-pub put-none : (s : List ℕ) (to : ℕ) (f : ℕ → ℕ) → Put s to 0 f s
-put-none s to f = record { long = refl; inner = λ t l. absurd (omega arith); outer = λ i l. refl }
-
-pub put-more : (s s′ : List ℕ) (to n x : ℕ) (f : ℕ → ℕ) → to + n < length s′ → Put s to n f s′ → x ≡ f n → Put s to (n + 1) f (set s′ (to + n) x)
-put-more s s′ to n x f l h e = record {
-  long = length-set s′ (to + n) x ∙ h .long;
-  inner = λ t lt. by-equal t n
-      (λ q. ap (λ (k : ℕ). getD (set s′ (to + n) x) (to + k) 0) q ∙ getD-set-same s′ (to + n) x 0 l ∙ e ∙ ap f (sym q))
-      (λ q. getD-set-other s′ (to + n) (to + t) x 0 (λ z. q (omega arith)) ∙ h .inner t (omega arith));
-  outer = λ i side. getD-set-other s′ (to + n) i x 0 (off i side) ∙ h .outer i (less i side);
-}
-  where
-    off : (i : ℕ) → (i < to) ⊎ (to + (n + 1) ≤ i) → i ≢ to + n
-    off i side z = ⊎-elim (λ w. omega arith) (λ w. omega arith) side
-
-    less : (i : ℕ) → (i < to) ⊎ (to + (n + 1) ≤ i) → (i < to) ⊎ (to + n ≤ i)
-    less i side = ⊎-elim (λ w. inl w) (λ w. inr (omega arith)) side
-
--- runs apart from the run at `to` have their old bytes when some of it are stored, from `at` on
-sum-apart : (s s′ places : List ℕ) (to at d n t : ℕ) (f : ℕ → ℕ) → Put s (to + at) d f s′ → Apart places to (at + n) → d ≤ n → t < n
-    → sumAt s′ places (at + t) ≡ sumAt s places (at + t)
-unfolding sumAt
-sum-apart s s′ places to at d n t f h a ld lt =
-    xors-same (length places) (λ k. getD s′ (getD places k 0 + (at + t)) 0) (λ k. getD s (getD places k 0 + (at + t)) 0)
-    (λ k l. h .outer (getD places k 0 + (at + t)) (⊎-elim (λ w. inl (omega arith)) (λ w. inr (omega arith)) (a .side k l)))
-
--- bytes stored from `at` on, where the run was stored up to `done`
-pub put-over : (s₀ s s′ : List ℕ) (to at m done : ℕ) (f g : ℕ → ℕ) → Put s₀ to done f s → Put s (to + at) m g s′ → ((t : ℕ) → t < m → g t ≡ f (at + t))
-    → at ≤ done → done ≤ at + m → Put s₀ to (at + m) f s′
-put-over s₀ s s′ to at m done f g h b same lo hi = record {
-  long = b .long ∙ h .long;
-  inner = λ t l. by-less t at (λ w. b .outer (to + t) (inl (omega arith)) ∙ h .inner t (omega arith)) (λ w. stored t w l);
-  outer = λ i side. b .outer i (⊎-elim (λ w. inl (omega arith)) (λ w. inr (omega arith)) side) ∙ h .outer i (⊎-elim (λ w. inl w) (λ w. inr (omega arith)) side);
-}
-  where
-    stored : (t : ℕ) → at ≤ t → t < at + m → getD s′ (to + t) 0 ≡ f t
-    stored t lo′ hi′ =
-        let place : to + at + (t - at) ≡ to + t = omega arith in
-        let whole : at + (t - at) ≡ t = omega arith in
-        ap (λ (i : ℕ). getD s′ i 0) (sym place) ∙ b .inner (t - at) (omega arith) ∙ same (t - at) (omega arith) ∙ ap f whole
-
--- a block of a sum: the runs are as they were
-pub put-block : (s₀ s s′ places : List ℕ) (to at n next m done : ℕ)
-    → Put s₀ (to + at) done (λ t. sumAt s₀ places (at + t)) s → Put s (to + (at + next)) m (λ t. sumAt s places (at + next + t)) s′
-    → Apart places to (at + n) → next ≤ done → done ≤ next + m → next + m ≤ n → Put s₀ (to + at) (next + m) (λ t. sumAt s₀ places (at + t)) s′
-put-block s₀ s s′ places to at n next m done h b a lo hi end =
-    put-over s₀ s s′ (to + at) next m done (λ t. sumAt s₀ places (at + t)) (λ t. sumAt s places (at + next + t)) h
-    (subst (λ (k : ℕ). Put s k m (λ t. sumAt s places (at + next + t)) s′) (sym (add-assoc to at next)) b)
-    (λ t l. ap (sumAt s places) (add-assoc at next t) ∙ sum-apart s₀ s places to at done n (next + t) (λ i. sumAt s₀ places (at + i)) h a (omega arith) (omega arith)) lo hi
-
--- a block of a sum of another list's runs
-pub put-from : (d₀ d d′ s places : List ℕ) (to at next m done : ℕ) → Put d₀ to done (λ t. sumAt s places (at + t)) d → Put d (to + next) m (λ t. sumAt s places (at + next + t)) d′
-    → next ≤ done → done ≤ next + m → Put d₀ to (next + m) (λ t. sumAt s places (at + t)) d′
-put-from d₀ d d′ s places to at next m done h b =
-    put-over d₀ d d′ to next m done (λ t. sumAt s places (at + t)) (λ t. sumAt s places (at + next + t)) h b (λ t l. ap (sumAt s places) (add-assoc at next t))
-
--- the same at the start of the other list
-pub put-start : (d₀ d d′ s places : List ℕ) (at next m done : ℕ) → Put d₀ 0 done (λ t. sumAt s places (at + t)) d → Put d next m (λ t. sumAt s places (at + next + t)) d′
-    → next ≤ done → done ≤ next + m → Put d₀ 0 (next + m) (λ t. sumAt s places (at + t)) d′
-put-start d₀ d d′ s places at next m done h b =
-    put-from d₀ d d′ s places 0 at next m done h (subst (λ (k : ℕ). Put d k m (λ t. sumAt s places (at + next + t)) d′) (sym (zero-add next)) b)
-
--- one block more, where x t is XORed into each byte t: bytes not reached yet are as they were
-put-next : (s₀ s s′ : List ℕ) (to done m : ℕ) (x g : ℕ → ℕ) → Put s₀ to done (λ t. getD s₀ (to + t) 0 ⊕ x t) s → Put s (to + done) m g s′
-    → ((t : ℕ) → t < m → g t ≡ getD s (to + (done + t)) 0 ⊕ x (done + t)) → Put s₀ to (done + m) (λ t. getD s₀ (to + t) 0 ⊕ x t) s′
-put-next s₀ s s′ to done m x g h b same =
-    put-over s₀ s s′ to done m done (λ t. getD s₀ (to + t) 0 ⊕ x t) g h b
-    (λ t l. same t l ∙ ap (λ (y : ℕ). y ⊕ x (done + t)) (h .outer (to + (done + t)) (inr (omega arith)))) (omega arith) (omega arith)
-
--- no runs to XOR in
-pub put-no-runs : (d s places : List ℕ) (to at n : ℕ) → length places ≡ 0 → Put d to n (addedTo d to s places at) d
-unfolding addedTo sumAt
-put-no-runs d s places to at n none = record {
-  long = refl;
-  inner = λ t l. sym (⊕-zero (getD d (to + t) 0)) ∙ ap (λ (y : ℕ). getD d (to + t) 0 ⊕ y) (sym (nothing (λ k. getD s (getD places k 0 + (at + t)) 0)));
-  outer = λ i side. refl;
-}
-  where
-    nothing : (f : ℕ → ℕ) → xors (length places) f ≡ 0
-    nothing f = ap (λ (k : ℕ). xors k f) none ∙ xors-none f
-
--- a block of a sum XORed into another list
-pub put-added : (d₀ d d′ s places : List ℕ) (to at done m : ℕ)
-    → Put d₀ to done (addedTo d₀ to s places at) d → Put d (to + done) m (addedTo d (to + done) s places (at + done)) d′
-    → Put d₀ to (done + m) (addedTo d₀ to s places at) d′
-unfolding addedTo
-put-added d₀ d d′ s places to at done m h b =
-    put-next d₀ d d′ to done m (λ t. sumAt s places (at + t)) (addedTo d (to + done) s places (at + done)) h b
-    (λ t l. ap₂ (λ (i k : ℕ). getD d i 0 ⊕ sumAt s places k) (add-assoc to done t) (add-assoc at done t))
-
--- a block of a difference: the bytes that it is made of are as they were
-pub put-difference : (s₀ s s′ new : List ℕ) (to from n at m : ℕ)
-    → Put s₀ to at (changedBy s₀ to from new) s → Put s (to + at) m (λ t. changedBy s to from new (at + t)) s′
-    → Beside to from n → at + m ≤ n → Put s₀ to (at + m) (changedBy s₀ to from new) s′
-unfolding changedBy
-put-difference s₀ s s′ new to from n at m h b side end =
-    put-next s₀ s s′ to at m (λ t. getD s₀ (from + t) 0 ⊕ getD new t 0) (λ t. changedBy s to from new (at + t)) h b
-    (λ t l. ap (λ (y : ℕ). getD s (to + (at + t)) 0 ⊕ (y ⊕ getD new (at + t) 0))
-    (h .outer (from + (at + t)) (⊎-elim (λ w. inl (omega arith)) (λ w. inr (omega arith)) side)))
-
--- a block whose bytes are those of another
-pub put-same : (s s′ : List ℕ) (to n : ℕ) (f g : ℕ → ℕ) → Put s to n f s′ → ((t : ℕ) → t < n → f t ≡ g t) → Put s to n g s′
-put-same s s′ to n f g h e = record { long = h .long; inner = λ t l. h .inner t l ∙ e t l; outer = h .outer }
-
--- a block that is all zeros before anything is XORed in
-pub from-zero : (r : List ℕ) (n : ℕ) (f : ℕ → ℕ) → n ≤ 128 → Added (replicate 128 0) n f r → (t : ℕ) → t < n → getD r t 0 ≡ f t
-from-zero r n f ln h t l = h .inner t l ∙ ap (λ (x : ℕ). x ⊕ f t) (getD-replicate 128 t 0 0 (omega arith)) ∙ zero-⊕ (f t)
-
--- two additions from zero
-pub added-both : (r₁ r₂ : List ℕ) (n : ℕ) (f g : ℕ → ℕ) → n ≤ 128 → Added (replicate 128 0) n f r₁ → Added r₁ n g r₂ → (t : ℕ) → t < n → getD r₂ t 0 ≡ f t ⊕ g t
-added-both r₁ r₂ n f g ln h₁ h₂ t l = h₂ .inner t l ∙ ap (λ (x : ℕ). x ⊕ g t) (from-zero r₁ n f ln h₁ t l)
-
--- three additions from zero make a byte of a difference
-pub difference-block : (s new r₁ r₂ r₃ : List ℕ) (to from at n : ℕ) → n ≤ 128 → Added (replicate 128 0) n (λ i. getD s (to + at + i) 0) r₁
-    → Added r₁ n (λ i. getD s (from + at + i) 0) r₂ → Added r₂ n (λ i. getD new (at + i) 0) r₃ → (t : ℕ) → t < n → getD r₃ t 0 ≡ changedBy s to from new (at + t)
-unfolding changedBy
-difference-block s new r₁ r₂ r₃ to from at n ln h₁ h₂ h₃ t l =
-    h₃ .inner t l
-    ∙ ap (λ (x : ℕ). x ⊕ getD new (at + t) 0) (added-both r₁ r₂ n (λ i. getD s (to + at + i) 0) (λ i. getD s (from + at + i) 0) ln h₁ h₂ t l)
-    ∙ ⊕-assoc (getD s (to + at + t) 0) (getD s (from + at + t) 0) (getD new (at + t) 0)
-    ∙ ap₂ (λ (i k : ℕ). getD s i 0 ⊕ (getD s k 0 ⊕ getD new (at + t) 0)) (add-assoc to at t) (add-assoc from at t)
-
--- shorter runs are inside too
-pub shorter : (long long′ n m : ℕ) (places : List ℕ) → Inside long places n → long′ ≡ long → m ≤ n → Inside long′ places m
-shorter long long′ n m places h e l = record { ends = λ k lk. let ends = h .ends k lk in omega arith }
-
--- the last byte of the run is stored
-pub put-end : (s s′ : List ℕ) (to n m : ℕ) (f : ℕ → ℕ) → Put s to m f s′ → m ≡ n → Put s to n f s′
-put-end s s′ to n m f h e = subst (λ (k : ℕ). Put s to k f s′) e h
 
 -- ---- bits gathered from bytes
 
@@ -291,16 +172,22 @@ module _ (f : ℕ → ℕ) where
   zero-more at m done lo before here t l =
       by-less t at (λ w. before t (omega arith)) (λ w. let same : at + (t - at) ≡ t = omega arith in ap f (sym same) ∙ here (t - at) (omega arith))
 
-  -- one block is the whole run
-  pub zero-whole : (n : ℕ) (r : Bool) → Says (ZeroFrom 0 n) r → Says (Zero n) r
-  zero-whole n r = says-zero n (λ t. f (0 + t)) f r (λ t l. ap f (zero-add t))
-
   -- a block that is not zero, or no such block
   pub zero-not : (n at m : ℕ) (r : Bool) → at + m ≤ n → Says (ZeroFrom at m) r → r ≡ false → Says (Zero n) false
   zero-not n at m r end h e = record { yes = λ z. clash z refl; no = λ z all. h .no e (λ t l. all (at + t) (omega arith)) }
 
   pub zero-all : (n : ℕ) → Zero n → Says (Zero n) true
   zero-all n h = record { yes = λ z. h; no = λ z all. clash refl z }
+
+  -- what is said up to `done` and what is said of a block, together
+  says-more : (at m done : ℕ) (was now : Bool) → at ≤ done → done ≤ at + m → Says (Zero done) was → Says (ZeroFrom at m) now → Says (Zero (at + m)) (was && now)
+  says-more at m done was now lo hi before here = record {
+    yes = λ e. zero-more at m done lo (before .yes (and-left was now e)) (here .yes (and-right was now e));
+    no = λ e all. clash (and-both (said was (λ p. before .no p (λ t l. all t (omega arith)))) (said now (λ p. here .no p (λ t l. all (at + t) (omega arith))))) e;
+  }
+    where
+      said : (b : Bool) → (b ≡ false → ⊥) → b ≡ true
+      said b h = by-test b (λ p. p) (λ p. absurd (h p))
 
   -- ---- a number that is not zero
 
@@ -313,12 +200,11 @@ module _ (f : ℕ → ℕ) where
   pub nonzero-here : (n r : ℕ) → r < n → f r ≢ 0 → NonzeroAt f n r
   nonzero-here n r l h = record { most = omega arith; some = λ k. h; none = λ k. absurd (omega arith) }
 
-  -- f is zero up to `done`, and looked at from there on
-  pub nonzero-after : (done m n r : ℕ) → done + m ≡ n → Zero done → NonzeroAt (λ t. f (done + t)) m r → NonzeroAt f n (done + r)
-  nonzero-after done m n r e before h = record {
-    most = let most = h .most in omega arith;
-    some = λ l. h .some (omega arith);
-    none = λ l t lt. zero-more done m done (omega arith) before (h .none (omega arith)) t (omega arith);
+  -- none, or one
+  pub nonzero-says : (n r : ℕ) → NonzeroAt f n r → Says (Zero n) (eqb r n)
+  nonzero-says n r h = record {
+    yes = λ e. h .none (omega (arith, eqb-true r n e));
+    no = λ e all. by-less r n (λ l. h .some l (all r l)) (λ l. let most = h .most in eqb-false r n e (omega arith));
   }
 
 -- equal numbers are zero in the same places
@@ -327,3 +213,177 @@ nonzero-same n r f g e h = record { most = h .most; some = λ l z. h .some l (e 
 
 pub nonzero-on : (f : ℕ → ℕ) (at next n r : ℕ) → NonzeroAt (λ t. f (at + next + t)) n r → NonzeroAt (λ t. f (at + (next + t))) n r
 nonzero-on f at next n r = nonzero-same n r (λ t. f (at + next + t)) (λ t. f (at + (next + t))) (λ t l. ap f (add-assoc at next t))
+
+-- ---- bytes stored in a run
+
+pub put-none : (s : List ℕ) (to : ℕ) (f : ℕ → ℕ) → Put s to 0 f s
+put-none s to f = record { long = refl; inner = λ t l. absurd (omega arith); outer = λ i l. refl }
+
+pub put-more : (s s′ : List ℕ) (to n x : ℕ) (f : ℕ → ℕ) → to + n < length s′ → Put s to n f s′ → x ≡ f n → Put s to (n + 1) f (set s′ (to + n) x)
+put-more s s′ to n x f l h e = record {
+  long = length-set s′ (to + n) x ∙ h .long;
+  inner = λ t lt. by-equal t n
+      (λ q. ap (λ (k : ℕ). getD (set s′ (to + n) x) (to + k) 0) q ∙ getD-set-same s′ (to + n) x 0 l ∙ e ∙ ap f (sym q))
+      (λ q. getD-set-other s′ (to + n) (to + t) x 0 (λ z. q (omega arith)) ∙ h .inner t (omega arith));
+  outer = λ i side. getD-set-other s′ (to + n) i x 0 (off i side) ∙ h .outer i (less i side);
+}
+  where
+    off : (i : ℕ) → (i < to) ⊎ (to + (n + 1) ≤ i) → i ≢ to + n
+    off i side z = ⊎-elim (λ w. omega arith) (λ w. omega arith) side
+
+    less : (i : ℕ) → (i < to) ⊎ (to + (n + 1) ≤ i) → (i < to) ⊎ (to + n ≤ i)
+    less i side = ⊎-elim (λ w. inl w) (λ w. inr (omega arith)) side
+
+-- runs apart from the run at `to` have their old bytes when some of it are stored, from `at` on
+sum-apart : (s s′ places : List ℕ) (to at d n t : ℕ) (f : ℕ → ℕ) → Put s (to + at) d f s′ → Apart places to (at + n) → d ≤ n → t < n
+    → sumAt s′ places (at + t) ≡ sumAt s places (at + t)
+unfolding sumAt
+sum-apart s s′ places to at d n t f h a ld lt =
+    xors-same (length places) (λ k. getD s′ (getD places k 0 + (at + t)) 0) (λ k. getD s (getD places k 0 + (at + t)) 0)
+    (λ k l. h .outer (getD places k 0 + (at + t)) (⊎-elim (λ w. inl (omega arith)) (λ w. inr (omega arith)) (a .side k l)))
+
+-- bytes stored from `at` on, where the run was stored up to `done`
+pub put-over : (s₀ s s′ : List ℕ) (to at m done : ℕ) (f g : ℕ → ℕ) → Put s₀ to done f s → Put s (to + at) m g s′ → ((t : ℕ) → t < m → g t ≡ f (at + t))
+    → at ≤ done → done ≤ at + m → Put s₀ to (at + m) f s′
+put-over s₀ s s′ to at m done f g h b same lo hi = record {
+  long = b .long ∙ h .long;
+  inner = λ t l. by-less t at (λ w. b .outer (to + t) (inl (omega arith)) ∙ h .inner t (omega arith)) (λ w. stored t w l);
+  outer = λ i side. b .outer i (⊎-elim (λ w. inl (omega arith)) (λ w. inr (omega arith)) side) ∙ h .outer i (⊎-elim (λ w. inl w) (λ w. inr (omega arith)) side);
+}
+  where
+    stored : (t : ℕ) → at ≤ t → t < at + m → getD s′ (to + t) 0 ≡ f t
+    stored t lo′ hi′ =
+        let place : to + at + (t - at) ≡ to + t = omega arith in
+        let whole : at + (t - at) ≡ t = omega arith in
+        ap (λ (i : ℕ). getD s′ i 0) (sym place) ∙ b .inner (t - at) (omega arith) ∙ same (t - at) (omega arith) ∙ ap f whole
+
+-- a block whose bytes are those of another
+pub put-same : (s s′ : List ℕ) (to n : ℕ) (f g : ℕ → ℕ) → Put s to n f s′ → ((t : ℕ) → t < n → f t ≡ g t) → Put s to n g s′
+put-same s s′ to n f g h e = record { long = h .long; inner = λ t l. h .inner t l ∙ e t l; outer = h .outer }
+
+-- ---- a run summed block by block, and whether it is zero so far
+
+-- what is said of the bytes that were stored
+pub summed-says : (s s′ : List ℕ) (to n : ℕ) (f : ℕ → ℕ) (r : Bool) → Summed s to n f s′ r → Says ((t : ℕ) → t < n → f t ≡ 0) r
+summed-says s s′ to n f r h = says-zero n (λ t. getD s′ (to + t) 0) f r (λ t l. h .put .inner t l) (h .zero)
+
+pub summed-as : (s s′ : List ℕ) (to n : ℕ) (f : ℕ → ℕ) (r : Bool) → Put s to n f s′ → Says ((t : ℕ) → t < n → f t ≡ 0) r → Summed s to n f s′ r
+summed-as s s′ to n f r put says = record { put = put; zero = says-zero n f (λ t. getD s′ (to + t) 0) r (λ t l. sym (put .inner t l)) says }
+
+-- a run whose bytes are those of another
+pub summed-same : (s s′ : List ℕ) (to n : ℕ) (f g : ℕ → ℕ) (r : Bool) → Summed s to n f s′ r → ((t : ℕ) → t < n → f t ≡ g t) → Summed s to n g s′ r
+summed-same s s′ to n f g r h e = record { put = put-same s s′ to n f g (h .put) e; zero = h .zero }
+
+-- a block of a sum, and then a block of another run XORed in
+pub with-block : (sum₀ sum₁ sum₂ s places other : List ℕ) (at from n : ℕ) (r₁ r : Bool)
+    → Summed sum₀ 0 n (λ t. sumAt s places (at + t)) sum₁ r₁ → Summed sum₁ 0 n (addedTo sum₁ 0 other (0 ∷ []) from) sum₂ r
+    → Says ((t : ℕ) → t < n → sumAt s places (at + t) ⊕ getD other (from + t) 0 ≡ 0) r
+unfolding addedTo
+with-block sum₀ sum₁ sum₂ s places other at from n r₁ r first second =
+    says-zero n (addedTo sum₁ 0 other (0 ∷ []) from) (λ t. sumAt s places (at + t) ⊕ getD other (from + t) 0) r
+    (λ t l. ap₂ _⊕_ (first .put .inner t l) (one-sum other 0 (from + t) ∙ ap (λ (i : ℕ). getD other i 0) (zero-add (from + t))))
+    (summed-says sum₁ sum₂ 0 n (addedTo sum₁ 0 other (0 ∷ []) from) r second)
+
+pub summed-none : (s : List ℕ) (to : ℕ) (f : ℕ → ℕ) → Summed s to 0 f s true
+summed-none s to f = summed-as s s to 0 f true (put-none s to f) (zero-all f 0 (λ t l. absurd (omega arith)))
+
+-- a block from `at` on, where the run was summed up to `done`
+summed-over : (s₀ s s′ : List ℕ) (to at m done : ℕ) (f g : ℕ → ℕ) (was now : Bool) → Summed s₀ to done f s was → Summed s (to + at) m g s′ now → ((t : ℕ) → t < m → g t ≡ f (at + t))
+    → at ≤ done → done ≤ at + m → Summed s₀ to (at + m) f s′ (was && now)
+summed-over s₀ s s′ to at m done f g was now h b same lo hi =
+    summed-as s₀ s′ to (at + m) f (was && now) (put-over s₀ s s′ to at m done f g (h .put) (b .put) same lo hi)
+    (says-more f at m done was now lo hi (summed-says s₀ s to done f was h) (says-zero m g (λ t. f (at + t)) now same (summed-says s s′ (to + at) m g now b)))
+
+-- a block of a sum: the runs are as they were
+pub summed-apart : (s₀ s s′ places : List ℕ) (to at n next m done : ℕ) (was now : Bool)
+    → Summed s₀ (to + at) done (λ t. sumAt s₀ places (at + t)) s was → Summed s (to + (at + next)) m (λ t. sumAt s places (at + next + t)) s′ now
+    → Apart places to (at + n) → next ≤ done → done ≤ next + m → next + m ≤ n → Summed s₀ (to + at) (next + m) (λ t. sumAt s₀ places (at + t)) s′ (was && now)
+summed-apart s₀ s s′ places to at n next m done was now h b a lo hi end =
+    summed-over s₀ s s′ (to + at) next m done (λ t. sumAt s₀ places (at + t)) (λ t. sumAt s places (at + next + t)) was now h
+    (subst (λ (k : ℕ). Summed s k m (λ t. sumAt s places (at + next + t)) s′ now) (sym (add-assoc to at next)) b)
+    (λ t l. ap (sumAt s places) (add-assoc at next t) ∙ sum-apart s₀ s places to at done n (next + t) (λ i. sumAt s₀ places (at + i)) (h .put) a (omega arith) (omega arith)) lo hi
+
+-- a block of a sum of another list's runs
+pub summed-from : (d₀ d d′ s places : List ℕ) (to at next m done : ℕ) (was now : Bool)
+    → Summed d₀ to done (λ t. sumAt s places (at + t)) d was → Summed d (to + next) m (λ t. sumAt s places (at + next + t)) d′ now
+    → next ≤ done → done ≤ next + m → Summed d₀ to (next + m) (λ t. sumAt s places (at + t)) d′ (was && now)
+summed-from d₀ d d′ s places to at next m done was now h b =
+    summed-over d₀ d d′ to next m done (λ t. sumAt s places (at + t)) (λ t. sumAt s places (at + next + t)) was now h b (λ t l. ap (sumAt s places) (add-assoc at next t))
+
+-- the same at the start of the other list
+pub summed-start : (d₀ d d′ s places : List ℕ) (at next m done : ℕ) (was now : Bool)
+    → Summed d₀ 0 done (λ t. sumAt s places (at + t)) d was → Summed d next m (λ t. sumAt s places (at + next + t)) d′ now
+    → next ≤ done → done ≤ next + m → Summed d₀ 0 (next + m) (λ t. sumAt s places (at + t)) d′ (was && now)
+summed-start d₀ d d′ s places at next m done was now h b =
+    summed-from d₀ d d′ s places 0 at next m done was now h (subst (λ (k : ℕ). Summed d k m (λ t. sumAt s places (at + next + t)) d′ now) (sym (zero-add next)) b)
+
+-- one block more, where x t is XORed into each byte t: bytes not reached yet are as they were
+summed-next : (s₀ s s′ : List ℕ) (to done m : ℕ) (x g : ℕ → ℕ) (was now : Bool) → Summed s₀ to done (λ t. getD s₀ (to + t) 0 ⊕ x t) s was → Summed s (to + done) m g s′ now
+    → ((t : ℕ) → t < m → g t ≡ getD s (to + (done + t)) 0 ⊕ x (done + t)) → Summed s₀ to (done + m) (λ t. getD s₀ (to + t) 0 ⊕ x t) s′ (was && now)
+summed-next s₀ s s′ to done m x g was now h b same =
+    summed-over s₀ s s′ to done m done (λ t. getD s₀ (to + t) 0 ⊕ x t) g was now h b
+    (λ t l. same t l ∙ ap (λ (y : ℕ). y ⊕ x (done + t)) (h .put .outer (to + (done + t)) (inr (omega arith)))) (omega arith) (omega arith)
+
+-- no runs to XOR in: it is as it was
+pub summed-no-runs : (d s places : List ℕ) (to at n r : ℕ) → length places ≡ 0 → NonzeroAt (λ t. sumAt d (to ∷ []) (0 + t)) n r → Summed d to n (addedTo d to s places at) d (eqb r n)
+unfolding addedTo sumAt
+summed-no-runs d s places to at n r none found = record {
+  put = record {
+    long = refl;
+    inner = λ t l. sym (⊕-zero (getD d (to + t) 0)) ∙ ap (λ (y : ℕ). getD d (to + t) 0 ⊕ y) (sym (nothing (λ k. getD s (getD places k 0 + (at + t)) 0)));
+    outer = λ i side. refl;
+  };
+  zero = says-zero n (λ t. sumAt d (to ∷ []) (0 + t)) (λ t. getD d (to + t) 0) (eqb r n) (λ t l. one-sum d to (0 + t) ∙ ap (λ (i : ℕ). getD d (to + i) 0) (zero-add t))
+      (nonzero-says (λ t. sumAt d (to ∷ []) (0 + t)) n r found);
+}
+  where
+    nothing : (f : ℕ → ℕ) → xors (length places) f ≡ 0
+    nothing f = ap (λ (k : ℕ). xors k f) none ∙ xors-none f
+
+-- a block of a sum XORed into another list
+pub summed-added : (d₀ d d′ s places : List ℕ) (to at done m : ℕ) (was now : Bool)
+    → Summed d₀ to done (addedTo d₀ to s places at) d was → Summed d (to + done) m (addedTo d (to + done) s places (at + done)) d′ now
+    → Summed d₀ to (done + m) (addedTo d₀ to s places at) d′ (was && now)
+unfolding addedTo
+summed-added d₀ d d′ s places to at done m was now h b =
+    summed-next d₀ d d′ to done m (λ t. sumAt s places (at + t)) (addedTo d (to + done) s places (at + done)) was now h b
+    (λ t l. ap₂ (λ (i k : ℕ). getD d i 0 ⊕ sumAt s places k) (add-assoc to done t) (add-assoc at done t))
+
+-- a block of a difference: the bytes that it is made of are as they were
+pub summed-difference : (s₀ s s′ new : List ℕ) (to from n at m : ℕ) (was now : Bool)
+    → Summed s₀ to at (changedBy s₀ to from new) s was → Summed s (to + at) m (λ t. changedBy s to from new (at + t)) s′ now
+    → Beside to from n → at + m ≤ n → Summed s₀ to (at + m) (changedBy s₀ to from new) s′ (was && now)
+unfolding changedBy
+summed-difference s₀ s s′ new to from n at m was now h b side end =
+    summed-next s₀ s s′ to at m (λ t. getD s₀ (from + t) 0 ⊕ getD new t 0) (λ t. changedBy s to from new (at + t)) was now h b
+    (λ t l. ap (λ (y : ℕ). getD s (to + (at + t)) 0 ⊕ (y ⊕ getD new (at + t) 0))
+    (h .put .outer (from + (at + t)) (⊎-elim (λ w. inl (omega arith)) (λ w. inr (omega arith)) side)))
+
+-- a block that is all zeros before anything is XORed in
+pub from-zero : (r : List ℕ) (n : ℕ) (f : ℕ → ℕ) → n ≤ 128 → Added (replicate 128 0) n f r → (t : ℕ) → t < n → getD r t 0 ≡ f t
+from-zero r n f ln h t l = h .inner t l ∙ ap (λ (x : ℕ). x ⊕ f t) (getD-replicate 128 t 0 0 (omega arith)) ∙ zero-⊕ (f t)
+
+-- two additions from zero
+pub added-both : (r₁ r₂ : List ℕ) (n : ℕ) (f g : ℕ → ℕ) → n ≤ 128 → Added (replicate 128 0) n f r₁ → Added r₁ n g r₂ → (t : ℕ) → t < n → getD r₂ t 0 ≡ f t ⊕ g t
+added-both r₁ r₂ n f g ln h₁ h₂ t l = h₂ .inner t l ∙ ap (λ (x : ℕ). x ⊕ g t) (from-zero r₁ n f ln h₁ t l)
+
+-- three additions from zero make a byte of a difference
+pub difference-block : (s new r₁ r₂ r₃ : List ℕ) (to from at n : ℕ) → n ≤ 128 → Added (replicate 128 0) n (λ i. getD s (to + at + i) 0) r₁
+    → Added r₁ n (λ i. getD s (from + at + i) 0) r₂ → Added r₂ n (λ i. getD new (at + i) 0) r₃ → (t : ℕ) → t < n → getD r₃ t 0 ≡ changedBy s to from new (at + t)
+unfolding changedBy
+difference-block s new r₁ r₂ r₃ to from at n ln h₁ h₂ h₃ t l =
+    h₃ .inner t l
+    ∙ ap (λ (x : ℕ). x ⊕ getD new (at + t) 0) (added-both r₁ r₂ n (λ i. getD s (to + at + i) 0) (λ i. getD s (from + at + i) 0) ln h₁ h₂ t l)
+    ∙ ⊕-assoc (getD s (to + at + t) 0) (getD s (from + at + t) 0) (getD new (at + t) 0)
+    ∙ ap₂ (λ (i k : ℕ). getD s i 0 ⊕ (getD s k 0 ⊕ getD new (at + t) 0)) (add-assoc to at t) (add-assoc from at t)
+
+-- shorter runs are inside too
+pub shorter : (long long′ n m : ℕ) (places : List ℕ) → Inside long places n → long′ ≡ long → m ≤ n → Inside long′ places m
+shorter long long′ n m places h e l = record { ends = λ k lk. let ends = h .ends k lk in omega arith }
+
+-- the last byte of the run is stored
+pub put-end : (s s′ : List ℕ) (to n m : ℕ) (f : ℕ → ℕ) → Put s to m f s′ → m ≡ n → Put s to n f s′
+put-end s s′ to n m f h e = subst (λ (k : ℕ). Put s to k f s′) e h
+
+pub summed-end : (s s′ : List ℕ) (to n m : ℕ) (f : ℕ → ℕ) (r : Bool) → Summed s to m f s′ r → m ≡ n → Summed s to n f s′ r
+summed-end s s′ to n m f r h e = subst (λ (k : ℕ). Summed s to k f s′ r) e h

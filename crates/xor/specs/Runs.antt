@@ -19,10 +19,6 @@ changedBy s to from new t = getD s (to + t) 0 ⊕ (getD s (from + t) 0 ⊕ getD 
 unfoldable pub addedTo : List ℕ → ℕ → List ℕ → List ℕ → ℕ → ℕ → ℕ
 addedTo d to s places at t = getD d (to + t) 0 ⊕ sumAt s places (at + t)
 
--- the XOR of byte t of the run at `to` and of the runs at the places
-unfoldable pub withOwn : List ℕ → List ℕ → ℕ → ℕ → ℕ
-withOwn s places to t = getD s (to + t) 0 ⊕ sumAt s places t
-
 -- every run of n bytes lies inside
 pub record Inside (long : ℕ) (places : List ℕ) (n : ℕ) : Type 0 where
   pub ends : (k : ℕ) → k < length places → getD places k 0 + n ≤ long
@@ -51,6 +47,11 @@ pub record Put (s : List ℕ) (to n : ℕ) (f : ℕ → ℕ) (s′ : List ℕ) :
 pub record Says (fact : Type 0) (r : Bool) : Type 0 where
   pub yes : r ≡ true → fact
   pub no : r ≡ false → fact → ⊥
+
+-- s′ is s with f t in byte t of the run of n bytes at `to`, and r says whether every byte of the run is zero now
+pub record Summed (s : List ℕ) (to n : ℕ) (f : ℕ → ℕ) (s′ : List ℕ) (r : Bool) : Type 0 where
+  pub put : Put s to n f s′
+  pub zero : Says ((t : ℕ) → t < n → getD s′ (to + t) 0 ≡ 0) r
 
 -- r is below n and f is not zero at it, or r is n and f is zero below n
 pub record NonzeroAt (f : ℕ → ℕ) (n r : ℕ) : Type 0 where

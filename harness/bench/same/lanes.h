@@ -18,70 +18,64 @@ static uint64_t union_of(const uint64_t sets[SETS], uint64_t n)
     return all;
 }
 
-/* Inlined here and called by a run: each takes the fewest instructions so. */
-static void put_total(struct zijraduf_shape shape, const uint8_t *stripe, uint64_t q, size_t at, size_t n,
+/* Says whether the total is zero in all n bytes. */
+static int put_total(struct zijraduf_shape shape, const uint8_t *stripe, uint64_t q, size_t at, size_t n,
                       uint8_t lanes[LANES])
 {
     uint64_t places[PLACES] = {0};
     uint64_t count = cells_of(shape, q, places);
-    [[clang::always_inline]] put_sum_from(lanes, q * LANE, stripe, places, count, at, n);
+    return put_sum_zero(lanes, q * LANE, stripe, places, count, at, n);
 }
 
-static void put_total_with(struct zijraduf_shape shape, const uint8_t *stripe, const uint8_t *shared,
+static int put_total_with(struct zijraduf_shape shape, const uint8_t *stripe, const uint8_t *shared,
                            uint64_t q, size_t at, size_t n, uint8_t lanes[LANES])
 {
     uint64_t places[PLACES] = {0};
     uint64_t count = cells_with(shape, q, places);
-    [[clang::always_inline]] put_sum_from(lanes, q * LANE, stripe, places, count, at, n);
-    if (takes_shared(shape, q))
-        add_shared(lanes, q * LANE, shared, n);
+    int zero = put_sum_zero(lanes, q * LANE, stripe, places, count, at, n);
+    return takes_shared(shape, q) ? add_run_zero(lanes, q * LANE, shared, n) : zero;
 }
 
-[[clang::noinline]] static void put_totals_with(struct zijraduf_shape shape, const uint8_t *stripe,
-                                                uint64_t set, size_t at, size_t n, uint8_t lanes[LANES])
+[[clang::noinline]] static uint64_t put_totals_with(struct zijraduf_shape shape, const uint8_t *stripe,
+                                                    uint64_t set, size_t at, size_t n, uint8_t lanes[LANES])
 {
     uint8_t shared[LANE];
     put_shared(shape, stripe, at, n, shared);
     uint64_t members[SETS] = {0};
-    uint64_t count = list_members(set, 1, members);
+    uint64_t count = list_members(set, 1, members), failing = 0;
     for (uint64_t k = 0; k < count; k++)
-        put_total_with(shape, stripe, shared, members[k], at, n, lanes);
+        if (!put_total_with(shape, stripe, shared, members[k], at, n, lanes))
+            failing |= one_bit(members[k]);
+    return failing;
 }
 
-/* The totals of a set of equations, of the n bytes from `at` on. */
-static void put_totals(struct zijraduf_shape shape, const uint8_t *stripe, uint64_t set, size_t at, size_t n,
-                       uint8_t lanes[LANES])
+/* The totals of a set of equations, of the n bytes from `at` on. Gives those that are not all zero. */
+static uint64_t put_totals(struct zijraduf_shape shape, const uint8_t *stripe, uint64_t set, size_t at, size_t n,
+                           uint8_t lanes[LANES])
 {
-    if (shares(shape)) {
-        put_totals_with(shape, stripe, set, at, n, lanes);
-        return;
-    }
+    if (shares(shape))
+        return put_totals_with(shape, stripe, set, at, n, lanes);
     uint64_t members[SETS] = {0};
-    uint64_t count = list_members(set, 1, members);
+    uint64_t count = list_members(set, 1, members), failing = 0;
     for (uint64_t k = 0; k < count; k++)
-        put_total(shape, stripe, members[k], at, n, lanes);
+        if (!put_total(shape, stripe, members[k], at, n, lanes))
+            failing |= one_bit(members[k]);
+    return failing;
 }
 
-static int set_agrees(const uint8_t lanes[LANES], uint64_t set, size_t n)
+/* Lanes that are zero are left out. */
+static int lanes_agree(const uint8_t lanes[LANES], const uint64_t checks[SETS], uint64_t v, uint64_t failing, size_t n)
 {
     uint64_t places[SETS] = {0};
-    uint64_t count = list_members(set, LANE, places);
-    return sums_to_zero(lanes, places, count, n);
-}
-
-static int lanes_agree(const uint8_t lanes[LANES], const uint64_t checks[SETS], uint64_t v, size_t n)
-{
-    for (uint64_t j = 0; j < v; j++)
-        if (!set_agrees(lanes, checks[j], n))
+    for (uint64_t j = 0; j < v; j++) {
+        uint64_t set = checks[j] & failing;
+        if (set == 0)
+            continue;
+        uint64_t count = list_members(set, LANE, places);
+        if (nonzero_at(lanes, places, count, n) != n)
             return 0;
+    }
     return 1;
-}
-
-static void add_lanes(uint8_t *stripe, size_t to, const uint8_t lanes[LANES], uint64_t set, size_t n)
-{
-    uint64_t places[SETS] = {0};
-    uint64_t count = list_members(set, LANE, places);
-    add_sum(stripe, to, lanes, places, count, 0, n);
 }
 
 static size_t lane_bytes(size_t at, size_t cell)
@@ -92,8 +86,8 @@ static size_t lane_bytes(size_t at, size_t cell)
 static int lane_agrees(struct zijraduf_shape shape, const uint8_t *stripe, const uint64_t checks[SETS], uint64_t v,
                        uint64_t set, size_t at, size_t n, uint8_t lanes[LANES])
 {
-    put_totals(shape, stripe, set, at, n, lanes);
-    return lanes_agree(lanes, checks, v, n);
+    uint64_t failing = put_totals(shape, stripe, set, at, n, lanes);
+    return lanes_agree(lanes, checks, v, failing, n);
 }
 
 static int survivors_agree(struct zijraduf_shape shape, const uint8_t *stripe, const uint64_t checks[SETS], uint64_t v,
@@ -113,8 +107,11 @@ static int survivors_agree(struct zijraduf_shape shape, const uint8_t *stripe, c
 static void fill_cells(struct zijraduf_shape shape, uint8_t *stripe, const uint8_t lanes[LANES],
                        const uint64_t listed[SETS], const uint64_t sets[SETS], uint64_t lost, size_t at, size_t n)
 {
-    for (uint64_t k = 0; k < lost; k++)
-        add_lanes(stripe, listed[k] * shape.cell + at, lanes, sets[k], n);
+    uint64_t places[SETS] = {0};
+    for (uint64_t k = 0; k < lost; k++) {
+        uint64_t count = list_members(sets[k], LANE, places);
+        add_sum(stripe, listed[k] * shape.cell + at, lanes, places, count, 0, n);
+    }
 }
 
 static void fill_lane(struct zijraduf_shape shape, uint8_t *stripe, const uint64_t listed[SETS],

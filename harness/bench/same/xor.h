@@ -28,10 +28,15 @@ static void sum_runs(uint8_t sum[BLOCK], const uint8_t *s, const uint64_t *place
     add_runs(sum, s, places, last, at, n);
 }
 
-static void put_bytes(uint8_t *s, size_t at, const uint8_t block[BLOCK], size_t n)
+/* Says whether the bytes stored are all zero. */
+static int put_bytes(uint8_t *s, size_t at, const uint8_t block[BLOCK], size_t n)
 {
-    for (size_t i = 0; i < n; i++)
+    uint8_t stored = 0;
+    for (size_t i = 0; i < n; i++) {
+        stored |= block[i];
         s[at + i] = block[i];
+    }
+    return stored == 0;
 }
 
 static int all_zero(const uint8_t block[BLOCK], size_t n)
@@ -117,33 +122,12 @@ static int is_sum_with(const uint8_t *s, const uint64_t *places, uint64_t count,
     return 1;
 }
 
-static int is_zero_block(const uint8_t *s, const uint64_t *places, uint64_t count, size_t at, size_t n)
+static int put_block_from(uint8_t *d, size_t to, const uint8_t *s, const uint64_t *places, uint64_t count, size_t at,
+                          size_t n)
 {
     uint8_t sum[BLOCK] = {0};
     sum_runs(sum, s, places, count, at, n);
-    return all_zero(sum, n);
-}
-
-static int sums_to_zero(const uint8_t *s, const uint64_t *places, uint64_t count, size_t n)
-{
-    if (n < BLOCK)
-        return is_zero_block(s, places, count, 0, n);
-    size_t done = 0;
-    while (done < n) {
-        size_t at = block_at(done, n);
-        if (!is_zero_block(s, places, count, at, BLOCK))
-            return 0;
-        done = at + BLOCK;
-    }
-    return 1;
-}
-
-static void put_block_from(uint8_t *d, size_t to, const uint8_t *s, const uint64_t *places, uint64_t count, size_t at,
-                           size_t n)
-{
-    uint8_t sum[BLOCK] = {0};
-    sum_runs(sum, s, places, count, at, n);
-    put_bytes(d, to, sum, n);
+    return put_bytes(d, to, sum, n);
 }
 
 static void put_sum_from(uint8_t *d, size_t to, const uint8_t *s, const uint64_t *places, uint64_t count, size_t at,
@@ -159,6 +143,23 @@ static void put_sum_from(uint8_t *d, size_t to, const uint8_t *s, const uint64_t
         put_block_from(d, to + next, s, places, count, at + next, BLOCK);
         done = next + BLOCK;
     }
+}
+
+/* The same, and says whether the bytes stored are all zero. Apart, since what is called from several places can't drop
+ * an answer that only one of them asks for. */
+static int put_sum_zero(uint8_t *d, size_t to, const uint8_t *s, const uint64_t *places, uint64_t count, size_t at,
+                        size_t n)
+{
+    if (n < BLOCK)
+        return put_block_from(d, to, s, places, count, at, n);
+    int zero = 1;
+    size_t done = 0;
+    while (done < n) {
+        size_t next = block_at(done, n);
+        zero &= put_block_from(d, to + next, s, places, count, at + next, BLOCK);
+        done = next + BLOCK;
+    }
+    return zero;
 }
 
 static uint8_t sum_byte(const uint8_t *s, const uint64_t *places, uint64_t count, size_t t)
@@ -186,23 +187,26 @@ static size_t nonzero_block(const uint8_t *s, const uint64_t *places, uint64_t c
 
 static size_t nonzero_at(const uint8_t *s, const uint64_t *places, uint64_t count, size_t n)
 {
+    if (n < BLOCK)
+        return nonzero_block(s, places, count, 0, n);
     size_t done = 0;
-    while (BLOCK <= n - done) {
-        size_t i = nonzero_block(s, places, count, done, BLOCK);
+    while (done < n) {
+        size_t at = block_at(done, n);
+        size_t i = nonzero_block(s, places, count, at, BLOCK);
         if (i < BLOCK)
-            return done + i;
-        done += BLOCK;
+            return at + i;
+        done = at + BLOCK;
     }
-    return done + nonzero_block(s, places, count, done, n - done);
+    return n;
 }
 
-static void add_block_sum(uint8_t *d, size_t to, const uint8_t *s, const uint64_t *places, uint64_t count, size_t at,
-                          size_t n)
+static int add_block_sum(uint8_t *d, size_t to, const uint8_t *s, const uint64_t *places, uint64_t count, size_t at,
+                         size_t n)
 {
     uint8_t sum[BLOCK] = {0};
     add_bytes(sum, d, to, n);
     add_runs(sum, s, places, count, at, n);
-    put_bytes(d, to, sum, n);
+    return put_bytes(d, to, sum, n);
 }
 
 static void add_sum(uint8_t *d, size_t to, const uint8_t *s, const uint64_t *places, uint64_t count, size_t at,
@@ -217,6 +221,19 @@ static void add_sum(uint8_t *d, size_t to, const uint8_t *s, const uint64_t *pla
     }
     if (done < n)
         add_block_sum(d, to + done, s, places, count, at + done, n - done);
+}
+
+/* The run `from` of n bytes XORed into the run `to`. Says whether that is all zero now. */
+static int add_run_zero(uint8_t *d, size_t to, const uint8_t *from, size_t n)
+{
+    const uint64_t start[1] = {0};
+    int zero = 1;
+    size_t done = 0;
+    while (BLOCK <= n - done) {
+        zero &= add_block_sum(d, to + done, from, start, 1, done, BLOCK);
+        done += BLOCK;
+    }
+    return done < n ? zero & add_block_sum(d, to + done, from, start, 1, done, n - done) : zero;
 }
 
 static void add_block_difference(uint8_t *s, size_t to, size_t from, const uint8_t *bytes, size_t at, size_t n)

@@ -22,7 +22,7 @@ same-length : tie.Need-same-length
 same-length c = search needs
 
 returns : tie.Need-returns
-returns c = let a = c .before .before .before .before .before .before .before .before .before in listed-added (a .args .shape) (a .args .stripe .now) (a .args .at) (a .args .n) (a .pre .0) _ _ _ (c .before .before .before .before .before .cells-of .ensures) _ _ 0 (c .before .before .add-shared .ensures)
+returns c = let a = c .before .before .before .before .before .before .before .before .before in listed-added (a .args .shape) (a .args .stripe .now) (a .args .at) (a .args .n) (a .pre .0) _ _ _ (c .before .before .before .before .before .cells-of .ensures) _ _ 0 (c .before .before .add-shared .ensures .put)
 
 pub add-own-spec : {M : Type 1} → statement M
 add-own-spec =

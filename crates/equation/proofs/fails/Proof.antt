@@ -1,41 +1,42 @@
--- `equation::fails` meets its contract. It fails where the run at its parity cell is not the XOR of the others.
-use mathlib.Core.Path.{sym, refl}
-use Rattle.equation.proofs.Windows.{listed-long, listed-inside, parity-ends, fails-own}
+-- `equation::fails` meets its contract. It fails where the XOR of its cells is not zero.
+use mathlib.Core.Path.{sym}
+use native.Mathlib.Omega.{arith}
+use Rattle.equation.proofs.Windows.{listed-long, listed-inside, listed-says, fails-own}
 use borrow.Author.Needs.{needs}
 use Rattle.equation.proofs.fails.Statement.{statement}
 use Rattle.equation.proofs.fails.Tie as tie
 
-sources-of-requires : tie.Need-sources-of-requires
-sources-of-requires c κs = (c .before .before .pre .0 .formed, c .before .before .pre .1, refl)
+cells-of-requires : tie.Need-cells-of-requires
+cells-of-requires c κs = search needs
 
 array-share-prefix-places : tie.Need-array-share-prefix-places
 array-share-prefix-places c = search needs
 
-slice-aggregate-is-sum : tie.Need-slice-aggregate-is-sum
-slice-aggregate-is-sum c =
+slice-aggregate-sums-to-zero : tie.Need-slice-aggregate-sums-to-zero
+slice-aggregate-sums-to-zero c =
     let start = c .before .before .before .before in
-    sym (listed-long (start .args .shape) (start .args .stripe .now) (start .args .at) (start .args .n) (start .pre .0) _ _ _ (c .before .sources-of .ensures .listed))
+    sym (listed-long (start .args .shape) (start .args .stripe .now) (start .args .at) (start .args .n) (start .pre .0) _ _ _ (c .before .cells-of .ensures))
 
-is-sum-requires : tie.Need-is-sum-requires
-is-sum-requires c κs =
+sums-to-zero-requires : tie.Need-sums-to-zero-requires
+sums-to-zero-requires c κs =
     let start = c .before .before .before .before in
     let a = start .args in
-    let found = c .before .sources-of .ensures in
     let w = start .pre .0 in
-    (listed-inside (a .shape) (a .stripe .now) (a .at) (a .n) w _ _ _ (found .listed), parity-ends (a .shape) (a .stripe .now) (a .at) (a .n) w (a .q) _ _ found)
+    (listed-inside (a .shape) (a .stripe .now) (a .at) (a .n) w _ _ _ (c .before .cells-of .ensures), omega (arith, w .ends, w .formed .cellHigh))
 
 returns : tie.Need-returns
 returns c =
     let start = c .before .before .before .before .before in
     let a = start .args in
-    fails-own (a .shape) (a .stripe .now) (a .at) (a .n) (start .pre .0) (a .q) _ _ (c .before .before .sources-of .ensures) (start .pre .1) (start .pre .2) _ (c .is-sum .ensures)
+    fails-own (a .shape) (a .stripe .now) (a .at) (a .n) (start .pre .0) (a .q) (start .pre .2) _
+    (listed-says (a .shape) (a .stripe .now) (a .at) (a .n) (start .pre .0) _ _ _ (c .before .before .cells-of .ensures) _ (c .sums-to-zero .ensures))
 
 pub fails-spec : {M : Type 1} → statement M
 fails-spec =
     tie.close
     (tie.spec
-    sources-of-requires
+    cells-of-requires
     array-share-prefix-places
-    slice-aggregate-is-sum
-    is-sum-requires
+    slice-aggregate-sums-to-zero
+    sums-to-zero-requires
     returns)

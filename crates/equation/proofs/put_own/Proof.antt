@@ -1,7 +1,7 @@
 -- `equation::put_own` meets its contract. The places are those of the cells that the equation has by itself.
 use mathlib.Core.Path.{refl, sym}
 use native.Mathlib.Omega.{arith}
-use Rattle.equation.proofs.Windows.{listed-long, listed-inside, listed-put}
+use Rattle.equation.proofs.Windows.{listed-long, listed-inside, listed-summed}
 use borrow.Author.Needs.{needs}
 use Rattle.equation.proofs.put_own.Statement.{statement}
 use Rattle.equation.proofs.put_own.Tie as tie
@@ -34,7 +34,7 @@ returns : tie.Need-returns
 returns c =
     let start = c .before .before .before .before .before .before .before .before .before in
     let a = start .args in
-    listed-put (a .shape) (a .stripe .now) (a .at) (a .n) (start .pre .0) _ _ _ (c .before .before .before .before .before .cells-of .ensures) _ _ (a .to) (c .before .before .put-sum-from .ensures)
+    listed-summed (a .shape) (a .stripe .now) (a .at) (a .n) (start .pre .0) _ _ _ (c .before .before .before .before .before .cells-of .ensures) _ _ (a .to) _ (c .before .before .put-sum-from .ensures)
 
 pub put-own-spec : {M : Type 1} → statement M
 put-own-spec =

@@ -1,5 +1,5 @@
 -- `equation::put_shared` meets its contract. The places are those of the shared cells.
-use mathlib.Core.Path.{refl, sym}
+use mathlib.Core.Path.{sym}
 use native.Mathlib.Omega.{arith}
 use Rattle.equation.proofs.Windows.{listed-long, listed-inside, listed-added, shared-put}
 use borrow.Author.Needs.{needs}
@@ -29,7 +29,7 @@ same-length c = search needs
 returns : tie.Need-returns
 returns c =
     let a = c .before .before .before .before .before .before .before .before .before in
-    let put = c .before .before .add-shared .ensures in
+    let put = c .before .before .add-shared .ensures .put in
     (shared-put (a .args .shape) (a .args .stripe .now) (a .args .at) (a .args .n) _ _ (a .pre .2) (a .pre .3) (listed-added (a .args .shape) (a .args .stripe .now) (a .args .at) (a .args .n) (a .pre .0) _ _ _ (c .before .before .before .before .before .shared-cells .ensures) _ _ 0 put), put .long)
 
 pub put-shared-spec : {M : Type 1} → statement M

@@ -18,10 +18,10 @@ same-length : tie.Need-same-length
 same-length c = search needs
 
 returns : tie.Need-returns
-returns c = let a = c .before .before .before .before .before .before .before .before .before in total-plain (a .args .shape) (a .args .stripe .now) (a .args .at) (a .args .n) (a .pre .0 .formed) (a .args .q) (sym (c .before .takes-shared .ensures) ∙ not-true _ (c .if1 .taken)) _ _ (a .args .to) (c .before .before .before .before .put-own .ensures)
+returns c = let a = c .before .before .before .before .before .before .before .before .before in total-plain (a .args .shape) (a .args .stripe .now) (a .args .at) (a .args .n) (a .pre .0 .formed) (a .args .q) (sym (c .before .takes-shared .ensures) ∙ not-true _ (c .if1 .taken)) _ _ (a .args .to) _ (c .before .before .before .before .put-own .ensures)
 
 add-shared-requires : tie.Need-add-shared-requires
-add-shared-requires c κs = let a = c .before .before .before .before .before .before .before .before .before .before in (omega (arith, a .pre .2, c .before .before .before .before .before .put-own .ensures .long), a .pre .3 .long (takes-shares (a .args .shape) (a .args .q) (sym (c .before .before .takes-shared .ensures) ∙ not-false _ (c .before .if1 .left))))
+add-shared-requires c κs = let a = c .before .before .before .before .before .before .before .before .before .before in (omega (arith, a .pre .2, c .before .before .before .before .before .put-own .ensures .put .long), a .pre .3 .long (takes-shares (a .args .shape) (a .args .q) (sym (c .before .before .takes-shared .ensures) ∙ not-false _ (c .before .if1 .left))))
 
 same-length-2 : tie.Need-same-length-2
 same-length-2 c = search needs
@@ -30,7 +30,7 @@ returns-2 : tie.Need-returns-2
 returns-2 c =
     let a = c .before .before .before .before .before .before .before .before .before .before .before .before .before in
     let takes = sym (c .before .before .before .before .before .takes-shared .ensures) ∙ not-false _ (c .before .before .before .before .if1 .left) in
-    total-shared (a .args .shape) (a .args .stripe .now) (a .args .at) (a .args .n) (a .pre .0 .formed) (a .args .q) takes (a .args .shared .now) (a .pre .3) _ _ _ (a .args .to) (c .before .before .before .before .before .before .before .before .put-own .ensures) (c .before .before .add-shared .ensures)
+    total-shared (a .args .shape) (a .args .stripe .now) (a .args .at) (a .args .n) (a .pre .0 .formed) (a .args .q) takes (a .args .shared .now) (a .pre .3) _ _ _ (a .args .to) _ (c .before .before .before .before .before .before .before .before .put-own .ensures .put) (c .before .before .add-shared .ensures)
 
 pub put-total-spec : {M : Type 1} → statement M
 put-total-spec =

@@ -34,7 +34,7 @@ returns : tie.Need-returns
 returns c =
     let start = c .before .before .before .before .before .before .before .before in
     let a = start .args in
-    own-set (a .shape) (a .stripe .now) (a .at) (a .n) (start .pre .0) (a .q) _ _ (c .before .before .before .before .before .sources-of .ensures) (start .pre .1) _ (c .before .before .put-sum .ensures)
+    own-set (a .shape) (a .stripe .now) (a .at) (a .n) (start .pre .0) (a .q) _ _ (c .before .before .before .before .before .sources-of .ensures) (start .pre .1) _ _ (c .before .before .put-sum .ensures)
 
 pub set-own-spec : {M : Type 1} → statement M
 set-own-spec =

@@ -12,7 +12,7 @@ fill-cells-requires : tie.Need-fill-cells-requires
 fill-cells-requires c κs =
     let start = c .before .before .before .before .before .before .before .before .before in
     let lane = start .pre .0 in
-    let totals = c .before .before .before .before .put-totals .ensures in (
+    let totals = c .before .before .before .before .put-totals .ensures .0 in (
       record { window = lane .window; few = lane .few; space = totals .long },
       start .pre .1,
       start .pre .2,
@@ -23,10 +23,10 @@ same-length : tie.Need-same-length
 same-length c = c .before .before .fill-cells .ensures .long
 
 same-length-2 : tie.Need-same-length-2
-same-length-2 c = c .before .before .before .before .before .before .before .put-totals .ensures .long ∙ sym (c .before .before .before .before .before .before .before .before .before .before .before .before .pre .0 .space)
+same-length-2 c = c .before .before .before .before .before .before .before .put-totals .ensures .0 .long ∙ sym (c .before .before .before .before .before .before .before .before .before .before .before .before .pre .0 .space)
 
 returns : tie.Need-returns
-returns c = (c .before .before .fill-cells .ensures, c .before .before .before .before .before .before .before .put-totals .ensures .long)
+returns c = (c .before .before .fill-cells .ensures, c .before .before .before .before .before .before .before .put-totals .ensures .0 .long)
 
 pub fill-lane-spec : {M : Type 1} → statement M
 fill-lane-spec =

@@ -53,7 +53,7 @@ returns : tie.Need-returns
 returns c =
     let aimed = c .before .before .before .before .before .before .before .before .before .before .before in
     let is = aimed .aim .ensures in
-    record { put = row-put _ _ _ _ _ _ _ _ _ _ (aimed .before .before .before .before .before .pre .whole) (is .cells) (c .before .before .put-sum-whole .ensures); level = is .level; slant = is .slant }
+    record { put = row-put _ _ _ _ _ _ _ _ _ _ (aimed .before .before .before .before .before .pre .whole) (is .cells) (c .before .before .put-sum-whole .ensures .put); level = is .level; slant = is .slant }
 
 pub rebuild-row-spec : {M : Type 1} → statement M
 rebuild-row-spec =

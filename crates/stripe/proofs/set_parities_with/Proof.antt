@@ -35,7 +35,7 @@ loop-less : tie.Need-loop-less Inv-loop μ-loop
 loop-less c = omega arith
 
 loop-again : tie.Need-loop-again Inv-loop μ-loop
-loop-again c = (omega arith, settled-more _ (c .before .before .before .before .before .before .before .before .before .pre .0) _ _ _ _ (omega (arith, c .before .before .before .before .before .before .equation-count .ensures)) (c .before .before .before .before .before .loop .inv .1) (c .before .before .set-parity .ensures))
+loop-again c = (omega arith, settled-more _ (c .before .before .before .before .before .before .before .before .before .pre .0) _ _ _ _ (omega (arith, c .before .before .before .before .before .before .equation-count .ensures)) (c .before .before .before .before .before .loop .inv .1) (c .before .before .set-parity .ensures .0))
 
 same-length : tie.Need-same-length Inv-loop μ-loop
 same-length c = c .before .loop .inv .1 .long

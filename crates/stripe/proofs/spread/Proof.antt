@@ -46,7 +46,7 @@ loop-again c =
     let start = c .before .before .before .before .before .before .before .before .before .before in
     let turn = c .before .before .before .before .before .before .before .loop in
     let q = c .before .before .before .before .before .lowest-bit in
-    spread-more _ _ _ _ _ (start .pre .0) (turn .rest) (q .result) _ _ _ (q .ensures .0) (q .ensures .1) (start .pre .1 (q .result) (turn .inv .within (q .result) (q .ensures .1 .passes (q .ensures .0)))) (c .before .before .before .before .parity-place .ensures) (turn .inv) (c .before .before .add-difference .ensures)
+    spread-more _ _ _ _ _ (start .pre .0) (turn .rest) (q .result) _ _ _ (q .ensures .0) (q .ensures .1) (start .pre .1 (q .result) (turn .inv .within (q .result) (q .ensures .1 .passes (q .ensures .0)))) (c .before .before .before .before .parity-place .ensures) (turn .inv) (c .before .before .add-difference .ensures .put)
 
 same-length : tie.Need-same-length Inv-loop μ-loop
 same-length c = c .before .loop .inv .so .long

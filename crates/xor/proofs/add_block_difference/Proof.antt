@@ -1,7 +1,7 @@
 -- `xor::add_block_difference` meets its contract. Three additions from zero make each byte of the block, before any of it is stored.
 use Prim.Native.Nat.{_+_}
 use Rattle.xor.specs.Runs.{changedBy}
-use Rattle.xor.proofs.Runs.{put-same, difference-block}
+use Rattle.xor.proofs.Runs.{summed-same, difference-block}
 use borrow.Author.Needs.{needs}
 use Rattle.xor.proofs.add_block_difference.Statement.{statement}
 use Rattle.xor.proofs.add_block_difference.Tie as tie
@@ -33,7 +33,7 @@ same-length c = search needs
 returns : tie.Need-returns
 returns c =
     let a = c .before .before .before .before .before .before .before .before .before .before .before .args in
-    put-same (a .s .now) _ _ (a .n) _ (λ t. changedBy (a .s .now) (a .to) (a .from) (a .new .now) (a .at + t)) (c .before .before .put-bytes .ensures)
+    summed-same (a .s .now) _ _ (a .n) _ (λ t. changedBy (a .s .now) (a .to) (a .from) (a .new .now) (a .at + t)) _ (c .before .before .put-bytes .ensures)
     (difference-block (a .s .now) (a .new .now) _ _ _ (a .to) (a .from) (a .at) (a .n) (search needs) (c .before .before .before .before .before .before .before .add-bytes .ensures) (c .before .before .before .before .before .add-bytes2 .ensures) (c .before .before .before .before .add-bytes3 .ensures))
 
 pub add-block-difference-spec : {M : Type 1} → statement M

@@ -2,7 +2,7 @@
 use Prim.Native.Nat.{ℕ, _+_}
 use lib.ListN.{getD}
 use Rattle.xor.specs.Runs.{sumAt, addedTo}
-use Rattle.xor.proofs.Runs.{put-same, added-both}
+use Rattle.xor.proofs.Runs.{summed-same, added-both}
 use borrow.Author.Needs.{needs}
 use Rattle.xor.proofs.add_block_sum.Statement.{statement}
 use Rattle.xor.proofs.add_block_sum.Tie as tie
@@ -25,7 +25,7 @@ returns c =
     let a = c .before .before .before .before .before .before .before .before .before .before .args in
     let own : ℕ → ℕ = λ (t : ℕ). getD (a .d .now) (a .to + t) 0 in
     let sum : ℕ → ℕ = λ (t : ℕ). sumAt (a .s .now) (a .places .now) (a .at + t) in
-    put-same (a .d .now) _ _ (a .n) _ (addedTo (a .d .now) (a .to) (a .s .now) (a .places .now) (a .at)) (c .before .before .put-bytes .ensures)
+    summed-same (a .d .now) _ _ (a .n) _ (addedTo (a .d .now) (a .to) (a .s .now) (a .places .now) (a .at)) _ (c .before .before .put-bytes .ensures)
     (added-both _ _ (a .n) own sum (search needs) (c .before .before .before .before .before .add-bytes .ensures) (c .before .before .before .before .add-runs .ensures))
 
 pub add-block-sum-spec : {M : Type 1} → statement M

@@ -1,7 +1,7 @@
 -- `xor::put_block` meets its contract. The block is summed before any of it is stored.
 use Prim.Native.Nat.{_+_}
 use Rattle.xor.specs.Runs.{sumAt}
-use Rattle.xor.proofs.Runs.{put-same, from-zero}
+use Rattle.xor.proofs.Runs.{summed-same, from-zero}
 use borrow.Author.Needs.{needs}
 use Rattle.xor.proofs.put_block.Statement.{statement}
 use Rattle.xor.proofs.put_block.Tie as tie
@@ -21,7 +21,7 @@ same-length c = search needs
 returns : tie.Need-returns
 returns c =
     let a = c .before .before .before .before .before .before .before .before .args in
-    put-same (a .s .now) _ _ (a .n) _ (λ t. sumAt (a .s .now) (a .places .now) (a .at + t)) (c .before .before .put-bytes .ensures)
+    summed-same (a .s .now) _ _ (a .n) _ (λ t. sumAt (a .s .now) (a .places .now) (a .at + t)) _ (c .before .before .put-bytes .ensures)
     (from-zero _ (a .n) (λ t. sumAt (a .s .now) (a .places .now) (a .at + t)) (search needs) (c .before .before .before .before .add-runs .ensures))
 
 pub put-block-spec : {M : Type 1} → statement M

@@ -1,7 +1,7 @@
 -- `xor::put_block_from` meets its contract. The block is summed before any of it is stored.
 use Prim.Native.Nat.{_+_}
 use Rattle.xor.specs.Runs.{sumAt}
-use Rattle.xor.proofs.Runs.{put-same}
+use Rattle.xor.proofs.Runs.{summed-same}
 use borrow.Author.Needs.{needs}
 use Rattle.xor.proofs.put_block_from.Statement.{statement}
 use Rattle.xor.proofs.put_block_from.Tie as tie
@@ -18,7 +18,7 @@ same-length c = search needs
 returns : tie.Need-returns
 returns c =
     let a = c .before .before .before .before .before .before .before .before .args in
-    put-same (a .d .now) _ _ (a .n) _ (λ t. sumAt (a .s .now) (a .places .now) (a .at + t)) (c .before .before .put-bytes .ensures)
+    summed-same (a .d .now) _ _ (a .n) _ (λ t. sumAt (a .s .now) (a .places .now) (a .at + t)) _ (c .before .before .put-bytes .ensures)
     (c .before .before .before .before .sum-runs .ensures)
 
 pub put-block-from-spec : {M : Type 1} → statement M

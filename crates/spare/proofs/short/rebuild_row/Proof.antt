@@ -29,7 +29,7 @@ same-length c = search needs
 returns : tie.Need-returns
 returns c =
     let listed = c .before .before .before .before .before in
-    row-put _ _ _ _ _ _ _ _ _ _ (listed .before .before .before .before .pre .2) (listed .list-row .ensures .cells) (c .before .before .put-sum-listed .ensures)
+    row-put _ _ _ _ _ _ _ _ _ _ (listed .before .before .before .before .pre .2) (listed .list-row .ensures .cells) (c .before .before .put-sum-listed .ensures .put)
 
 pub rebuild-row-spec : {M : Type 1} → statement M
 rebuild-row-spec =
