@@ -219,6 +219,10 @@ module _ (s : Shape) (stripe : List ℕ) (v : ℕ) (checks : List ℕ) (at : ℕ
   abbrev pub PassesTo : ℕ → Type 0
   PassesTo done = (i : ℕ) → i < done → Passes s stripe v checks (at + i)
 
+  -- without checks there is nothing that fails
+  pub passes-none : (n : ℕ) → v ≡ 0 → Says (PassesTo n) true
+  passes-none n none = record { yes = λ z i l. record { zero = λ j lj. absurd (omega arith) }; no = λ z all. clash refl z }
+
   pub passes-more : (done m : ℕ) → PassesTo done → ((i : ℕ) → i < m → Passes s stripe v checks (at + done + i)) → PassesTo (done + m)
   passes-more done m before here i l =
       by-less i done (before i)

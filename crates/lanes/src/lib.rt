@@ -125,6 +125,10 @@ pub fn survivors_agree(
     ensures { λ r. ⌜ Says ((i : ℕ) → i < n → Passes shape (now (stripe .entry)) v (now (checks .entry)) (at + i)) r
         × (length (now (lanes .exit)) ≡ room) ⌝ }
 {
+    if v == 0 {
+        // nothing is left over to check by
+        return true;
+    }
     let set = bits::union(checks, v);
     let mut done = 0;
     while done < n {

@@ -297,6 +297,7 @@ pub fn add_sum(d: &mut [u8], to: usize, s: &[u8], places: &[usize], at: usize, n
     ensures { λ r. ⌜ Summed (now (d .entry)) to n (addedTo (now (d .entry)) to (now (s .entry)) (now (places .entry)) at) (now (d .exit)) r ⌝ }
 {
     if places.len() == 0 {
+        // nothing is XORed in, and the run is as it was
         let own = [to; 1];
         return nonzero_at(d, &own[..1], 0, n) == n;
     }
@@ -320,6 +321,7 @@ pub fn add_shared(d: &mut [u8], to: usize, s: &[u8], places: &[usize], at: usize
     ensures { λ r. ⌜ Summed (now (d .entry)) to n (addedTo (now (d .entry)) to (now (s .entry)) (now (places .entry)) at) (now (d .exit)) r ⌝ }
 {
     if places.len() == 0 {
+        // nothing is XORed in, and the run is as it was
         let own = [to; 1];
         return nonzero_at(d, &own[..1], 0, n) == n;
     }

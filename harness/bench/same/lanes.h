@@ -93,6 +93,8 @@ static int lane_agrees(struct zijraduf_shape shape, const uint8_t *stripe, const
 static int survivors_agree(struct zijraduf_shape shape, const uint8_t *stripe, const uint64_t checks[SETS], uint64_t v,
                            uint8_t lanes[LANES])
 {
+    if (v == 0)
+        return 1;
     uint64_t set = union_of(checks, v);
     size_t at = 0;
     while (at < shape.cell) {
