@@ -14,7 +14,7 @@ use Rattle.xor.specs.Sets.{any}
 use Rattle.xor.specs.Runs.{sumAt, addedTo, Inside, Apart, Put, Says, Summed, NonzeroAt}
 use Rattle.xor.proofs.Cases.{by-test, by-equal, by-less, clash}
 use Rattle.xor.proofs.Algebra.{zero-⊕, ⊕-comm, ⊕-equal, equal-⊕}
-use Rattle.xor.proofs.Runs.{first-long, first-at, first-inside, first-sum, one-inside, one-sum, says-zero, put-same, summed-same, nonzero-same}
+use Rattle.xor.proofs.Runs.{first-long, first-at, first-inside, first-sum, one-inside, one-first, says-zero, put-same, summed-same, nonzero-same}
 use Rattle.xor.proofs.Sets.{none-any, any-none}
 use Rattle.codes.specs.declared.Shape.{Shape}
 use Rattle.codes.specs.declared.Sources.{Sources}
@@ -43,9 +43,12 @@ module _ (s : Shape) (stripe : List ℕ) (q at n : ℕ) where
       none-any n (λ i. not (eqb (total s q (bytesAt s stripe (at + i))) 0)) (λ i l. ap not (eq-eqb (total s q (bytesAt s stripe (at + i))) 0 (h i l)))
 
   -- what a test of the total in every byte says
-  pub fails-says : (b : Bool) → Says ((i : ℕ) → i < n → total s q (bytesAt s stripe (at + i)) ≡ 0) b → not b ≡ failsIn s stripe q at n
+  fails-says : (b : Bool) → Says ((i : ℕ) → i < n → total s q (bytesAt s stripe (at + i)) ≡ 0) b → not b ≡ failsIn s stripe q at n
   fails-says true test = sym (holds-everywhere (test .yes refl))
   fails-says false test = sym (by-test (failsIn s stripe q at n) (λ p. p) (λ p. absurd (test .no refl (not-failing p))))
+
+  pub fails-by : (f : ℕ → ℕ) → ((i : ℕ) → i < n → f i ≡ total s q (bytesAt s stripe (at + i))) → (b : Bool) → Says ((i : ℕ) → i < n → f i ≡ 0) b → not b ≡ failsIn s stripe q at n
+  fails-by f is b test = fails-says b (says-zero n f (λ i. total s q (bytesAt s stripe (at + i))) b is test)
 
 -- ---- places that are listed, and passed on as the first of a list
 
@@ -73,15 +76,6 @@ module _ (s : Shape) (stripe : List ℕ) (at n : ℕ) (w : Window s stripe at n)
   listed-summed into into′ to r h =
       summed-same into into′ to n (λ t. sumAt stripe (take m places) (at + t)) (λ i. sum (bytesAt s stripe (at + i))) r h (λ i l. listed-sum stripe (at + i))
 
-  -- whether they are zero
-  pub listed-says : (b : Bool) → Says ((t : ℕ) → t < n → sumAt stripe (take m places) (at + t) ≡ 0) b → Says ((i : ℕ) → i < n → sum (bytesAt s stripe (at + i)) ≡ 0) b
-  listed-says b = says-zero n (λ t. sumAt stripe (take m places) (at + t)) (λ i. sum (bytesAt s stripe (at + i))) b (λ i l. listed-sum stripe (at + i))
-
-  -- and with other bytes
-  pub listed-with : (other : List ℕ) (b : Bool) → Says ((t : ℕ) → t < n → sumAt stripe (take m places) (at + t) ⊕ getD other t 0 ≡ 0) b → Says ((i : ℕ) → i < n → sum (bytesAt s stripe (at + i)) ⊕ getD other i 0 ≡ 0) b
-  listed-with other b =
-      says-zero n (λ t. sumAt stripe (take m places) (at + t) ⊕ getD other t 0) (λ i. sum (bytesAt s stripe (at + i)) ⊕ getD other i 0) b (λ i l. ap (λ (x : ℕ). x ⊕ getD other i 0) (listed-sum stripe (at + i)))
-
 -- a new array has zeros
 pub new-zeros : (m i : ℕ) → _≡_ {A = ℕ} (getD (replicate m 0) i 0) 0
 new-zeros m i = by-less i m (getD-replicate {A = ℕ} m i 0 0) (λ l. List·getD-eq-default (replicate m 0) 0 (omega (arith, length-replicate {A = ℕ} m 0)))
@@ -91,7 +85,7 @@ pub one-added : (bytes into into′ : List ℕ) (to n : ℕ) (r : Bool) → Summ
 unfolding addedTo
 one-added bytes into into′ to n r h =
     summed-same into into′ to n (addedTo into to bytes (0 ∷ []) 0) (λ i. getD into (to + i) 0 ⊕ getD bytes i 0) r h
-    (λ i l. ap (λ (x : ℕ). getD into (to + i) 0 ⊕ x) (one-sum bytes 0 (0 + i) ∙ ap (λ (k : ℕ). getD bytes k 0) (zero-add (0 + i) ∙ zero-add i)))
+    (λ i l. ap (λ (x : ℕ). getD into (to + i) 0 ⊕ x) (one-first bytes (0 + i) ∙ ap (λ (k : ℕ). getD bytes k 0) (zero-add i)))
 
 -- ---- the parity cell of an equation in a window
 
@@ -111,10 +105,10 @@ module _ (s : Shape) (stripe : List ℕ) (at n : ℕ) (w : Window s stripe at n)
   }
 
   -- whether they are all zero
-  pub parity-zero : (f : ℕ → ℕ) (new : List ℕ) (r : Bool) → Summed stripe (to + at) n f new r → ParityZero s q at n new r
-  parity-zero f new r h =
+  pub parity-zero : (new : List ℕ) (r : Bool) → Says ((i : ℕ) → i < n → getD new (to + at + i) 0 ≡ 0) r → ParityZero s q at n new r
+  parity-zero new r =
       says-zero n (λ i. getD new (to + at + i) 0) (λ i. byteAt s new (parityCell s q) (at + i)) r
-      (λ i l. ap (λ (x : ℕ). getD new x 0) (add-assoc to at i) ∙ sym (own-byte new (at + i))) (h .zero)
+      (λ i l. ap (λ (x : ℕ). getD new x 0) (add-assoc to at i) ∙ sym (own-byte new (at + i)))
 
   -- bytes that are XORed in there
   pub parity-more : (value : ℕ → ℕ) (old : List ℕ) (x : ℕ → ℕ) (new : List ℕ) → ParityPut s q at n value old stripe → Put stripe (to + at) n (λ i. getD stripe (to + at + i) 0 ⊕ x i) new → ParityPut s q at n (λ i. value i ⊕ x i) old new
@@ -128,39 +122,23 @@ module _ (s : Shape) (stripe : List ℕ) (at n : ℕ) (w : Window s stripe at n)
 
 -- ---- the cells that an equation sums by itself
 
-module _ (s : Shape) (stripe : List ℕ) (at n : ℕ) (w : Window s stripe at n) (q : ℕ) (r : Sources) (places : List ℕ) (h′ : Found s q r places) where
+module _ (s : Shape) (stripe : List ℕ) (at n : ℕ) (w : Window s stripe at n) (q : ℕ) (r : Sources) (places : List ℕ) (h : Found s q r places) where
   -- they lie apart from the parity cell
   pub used-apart : Apart (take (r .count) places) (r .to) (at + n)
   used-apart = record {
-    side = λ k l. subst (λ (x : ℕ). (x + (at + n) ≤ r .to) ⊎ (r .to + (at + n) ≤ x)) (sym (first-at places (r .count) (omega (arith, h′ .few, h′ .listed .long)) k l))
-        (⊎-elim (λ z. inl (omega (arith, w .ends))) (λ z. inr (omega (arith, w .ends))) (h′ .apart k (omega (arith, listed-long s stripe at n w (sumWhere s (ownCell s q)) (r .count) places (h′ .listed)))));
+    side = λ k l. subst (λ (x : ℕ). (x + (at + n) ≤ r .to) ⊎ (r .to + (at + n) ≤ x)) (sym (first-at places (r .count) (omega (arith, h .few, h .listed .long)) k l))
+        (⊎-elim (λ z. inl (omega (arith, w .ends))) (λ z. inr (omega (arith, w .ends))) (h .apart k (omega (arith, listed-long s stripe at n w (sumWhere s (ownCell s q)) (r .count) places (h .listed)))));
   }
 
   pub parity-ends : r .to + at + n ≤ length stripe
-  parity-ends = omega (arith, h′ .ends, w .long, w .ends)
+  parity-ends = omega (arith, h .ends, w .long, w .ends)
 
   module _ (lq : q < equations s) where
     pub own-set : (new : List ℕ) (b : Bool) → Summed stripe (r .to + at) n (λ t. sumAt stripe (take (r .count) places) (at + t)) new b
         → ParityPut s q at n (λ i. sumWhere s (ownCell s q) (bytesAt s stripe (at + i))) stripe new × ParityZero s q at n new b
-    own-set new b h =
-        let sum : ℕ → ℕ = λ (i : ℕ). sumWhere s (ownCell s q) (bytesAt s stripe (at + i)) in
-        let own = listed-summed s stripe at n w (sumWhere s (ownCell s q)) (r .count) places (h′ .listed) stripe new (r .to + at) b h in
-        (parity-put s stripe at n w q lq (r .to) (h′ .to) sum new (own .put), parity-zero s stripe at n w q lq (r .to) (h′ .to) sum new b own)
-
--- ---- whether an equation fails
-
-module _ (s : Shape) (stripe : List ℕ) (at n : ℕ) (w : Window s stripe at n) (q : ℕ) where
-  -- it fails where what it has by itself is not zero, or not what is shared
-  pub fails-own : takesShared s q ≡ false → (b : Bool) → Says ((i : ℕ) → i < n → ownTotal s q (bytesAt s stripe (at + i)) ≡ 0) b → not b ≡ failsIn s stripe q at n
-  fails-own plain b test =
-      fails-says s stripe q at n b
-      (says-zero n (λ i. ownTotal s q (bytesAt s stripe (at + i))) (λ i. total s q (bytesAt s stripe (at + i))) b (λ i l. own-total s q plain (bytesAt s stripe (at + i))) test)
-
-  pub fails-shared : takesShared s q ≡ true → (shared : List ℕ) → Shares s stripe at n shared → (b : Bool) → Says ((i : ℕ) → i < n → ownTotal s q (bytesAt s stripe (at + i)) ⊕ getD shared i 0 ≡ 0) b → not b ≡ failsIn s stripe q at n
-  fails-shared takes shared part b test =
-      fails-says s stripe q at n b
-      (says-zero n (λ i. ownTotal s q (bytesAt s stripe (at + i)) ⊕ getD shared i 0) (λ i. total s q (bytesAt s stripe (at + i))) b
-      (λ i l. ap (λ (x : ℕ). ownTotal s q (bytesAt s stripe (at + i)) ⊕ x) (part .is (takes-shares s q takes) i l) ∙ shared-total s (w .formed) q takes (bytesAt s stripe (at + i))) test)
+    own-set new b sum =
+        let own = listed-summed s stripe at n w (sumWhere s (ownCell s q)) (r .count) places (h .listed) stripe new (r .to + at) b sum in
+        (parity-put s stripe at n w q lq (r .to) (h .to) (λ i. sumWhere s (ownCell s q) (bytesAt s stripe (at + i))) new (own .put), parity-zero s stripe at n w q lq (r .to) (h .to) new b (own .zero))
 
 -- ---- with what is shared
 
@@ -228,7 +206,7 @@ module _ (s : Shape) (stripe : List ℕ) (q at n : ℕ) (w : WellFormed s) (take
   pub buffer-failing : (r : ℕ) → failsIn s stripe q at n ≡ true → NonzeroAt (λ t. sumAt sum (0 ∷ []) (0 + t)) n r → (r < n) × (total s q (bytesAt s stripe (at + r)) ≢ 0)
   buffer-failing =
       failing-at s stripe q at n (λ t. sumAt sum (0 ∷ []) (0 + t))
-      (λ i l. one-sum sum 0 (0 + i) ∙ ap (λ (k : ℕ). getD sum k 0) (zero-add (0 + i)) ∙ put .inner i l
+      (λ i l. one-first sum (0 + i) ∙ put .inner i l
       ∙ ap (λ (x : ℕ). x ⊕ ownTotal s q (bytesAt s stripe (at + i))) (ap (λ (k : ℕ). getD shared k 0) (zero-add i) ∙ part .is (takes-shares s q takes) i l)
       ∙ ⊕-comm (sharedSum s (bytesAt s stripe (at + i))) (ownTotal s q (bytesAt s stripe (at + i))) ∙ shared-total s w q takes (bytesAt s stripe (at + i)))
 

@@ -2,7 +2,7 @@
 use mathlib.Core.Path.{_≡_, refl, sym, ap, ap₂, _∙_, subst}
 use mathlib.Core.Logic.{_≢_, _⊎_, inl, inr, ⊎-elim}
 use mathlib.Core.List.{List}
-use mathlib.Core.Bool.{Bool, true, false, cond, not, _&&_, _||_, and-false}
+use mathlib.Core.Bool.{Bool, true, false, cond, not, _&&_, _||_, and-false, or-false}
 use Prim.Native.Nat.{ℕ, zero, suc, _+_, _-_, _*_, _^_, _≤_, _<_}
 use native.Mathlib.Nat.{mul-one, zero-add, add-assoc}
 use native.Mathlib.Omega.{arith}
@@ -97,15 +97,11 @@ module _ (s : Shape) (stripe : List ℕ) (at n : ℕ) where
     failing-more one e fail =
         failing-next (bitOr failing one)
         (λ q p. either (bit q failing) (eqb q (getD list k 0)) (sym (is q) ∙ p) (λ old. inl old) (λ new. inr (sym (eqb-true q (getD list k 0) new))))
-        (λ q off. is q ∙ ap (λ (b : Bool). bit q failing || b) (ne-eqb q (getD list k 0) off) ∙ or-nothing (bit q failing))
+        (λ q off. is q ∙ ap (λ (b : Bool). bit q failing || b) (ne-eqb q (getD list k 0) off) ∙ or-false (bit q failing))
         (is (getD list k 0) ∙ or-right (bit (getD list k 0) failing) (eq-eqb (getD list k 0) (getD list k 0) refl) ∙ sym fail)
       where
         is : (q : ℕ) → bit q (bitOr failing one) ≡ (bit q failing || eqb q (getD list k 0))
         is q = bit-or q failing one ∙ ap (λ (m : ℕ). bit q failing || bit q m) e ∙ ap (λ (b : Bool). bit q failing || b) (bit-power q (getD list k 0))
-
-        or-nothing : (b : Bool) → (b || false) ≡ b
-        or-nothing true = refl
-        or-nothing false = refl
 
   pub failing-all : WellFormed s → (set count : ℕ) (list : List ℕ) (k failing : ℕ) → ((r : ℕ) → bit r set ≡ true → r < equations s) → Members set 1 count list → k ≡ count → FailingTo list k failing
       → Failing s stripe set at n failing
@@ -133,20 +129,20 @@ module _ (lanes : List ℕ) (set count : ℕ) (places : List ℕ) (h : Members s
   lanes-inside n long few e =
       first-inside places count (omega (arith, h .few, h .long)) long n (λ k l. let found = h .member k l in omega (arith, found .1, found .3))
 
-  lane-sum : (i : ℕ) → sumAt lanes (take count places) i ≡ laneSum lanes set i
+  lane-sum : (i : ℕ) → sumAt lanes (take count places) (0 + i) ≡ laneSum lanes set i
   unfolding laneSum
-  lane-sum i = first-sum places count (omega (arith, h .few, h .long)) lanes i ∙ h .sum (λ p. getD lanes (p + i) 0)
+  lane-sum i = ap (sumAt lanes (take count places)) (zero-add i) ∙ first-sum places count (omega (arith, h .few, h .long)) lanes i ∙ h .sum (λ p. getD lanes (p + i) 0)
 
   pub lanes-say : (n r : ℕ) → NonzeroAt (λ i. sumAt lanes (take count places) (0 + i)) n r → Says ((i : ℕ) → i < n → laneSum lanes set i ≡ 0) (eqb r n)
   lanes-say n r h =
-      says-zero n (λ i. sumAt lanes (take count places) (0 + i)) (λ i. laneSum lanes set i) (eqb r n) (λ i l. ap (sumAt lanes (take count places)) (zero-add i) ∙ lane-sum i)
+      says-zero n (λ i. sumAt lanes (take count places) (0 + i)) (λ i. laneSum lanes set i) (eqb r n) (λ i l. lane-sum i)
       (nonzero-says (λ i. sumAt lanes (take count places) (0 + i)) n r h)
 
   pub lanes-added : (d d′ : List ℕ) (to n : ℕ) → Put d to n (addedTo d to lanes (take count places) 0) d′ → Put d to n (λ i. getD d (to + i) 0 ⊕ laneSum lanes set i) d′
   unfolding addedTo
   lanes-added d d′ to n put =
       put-same d d′ to n (addedTo d to lanes (take count places) 0) (λ i. getD d (to + i) 0 ⊕ laneSum lanes set i) put
-      (λ i l. ap (λ (x : ℕ). getD d (to + i) 0 ⊕ x) (ap (sumAt lanes (take count places)) (zero-add i) ∙ lane-sum i))
+      (λ i l. ap (λ (x : ℕ). getD d (to + i) 0 ⊕ x) (lane-sum i))
 
 -- the lanes of no equation
 pub no-lanes : (lanes : List ℕ) (set i : ℕ) → set ≡ 0 → laneSum lanes set i ≡ 0
@@ -219,10 +215,6 @@ module _ (s : Shape) (stripe : List ℕ) (v : ℕ) (checks : List ℕ) (at : ℕ
   abbrev pub PassesTo : ℕ → Type 0
   PassesTo done = (i : ℕ) → i < done → Passes s stripe v checks (at + i)
 
-  -- without checks there is nothing that fails
-  pub passes-none : (n : ℕ) → v ≡ 0 → Says (PassesTo n) true
-  passes-none n none = record { yes = λ z i l. record { zero = λ j lj. absurd (omega arith) }; no = λ z all. clash refl z }
-
   pub passes-more : (done m : ℕ) → PassesTo done → ((i : ℕ) → i < m → Passes s stripe v checks (at + done + i)) → PassesTo (done + m)
   passes-more done m before here i l =
       by-less i done (before i)
@@ -236,6 +228,10 @@ module _ (s : Shape) (stripe : List ℕ) (v : ℕ) (checks : List ℕ) (at : ℕ
 
   pub passes-all : (n done : ℕ) → n ≤ done → PassesTo done → Says (PassesTo n) true
   passes-all n done l h = record { yes = λ z i lt. h i (omega arith); no = λ z all. clash refl z }
+
+  -- without checks there is nothing that fails
+  pub passes-none : (n : ℕ) → v ≡ 0 → Says (PassesTo n) true
+  passes-none n none = passes-all n n (omega arith) (λ i l. record { zero = λ j lj. absurd (omega arith) })
 
 -- the whole of the cells
 pub passes-whole : (s : Shape) (stripe : List ℕ) (v : ℕ) (checks : List ℕ) (r : Bool) → Says (PassesTo s stripe v checks 0 (s .cell)) r → Says ((t : ℕ) → t < s .cell → Passes s stripe v checks t) r

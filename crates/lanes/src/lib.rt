@@ -62,11 +62,12 @@ fn put_totals(shape: Shape, stripe: &[u8], set: u64, at: usize, n: usize, lanes:
     put_totals_with(shape, stripe, set, at, n, &shared, lanes)
 }
 
-// Whether the lanes of each of the first v sets sum to zero in n bytes, where those of all but the failing equations are zero, and are left
-// out. One list of places serves all sets.
+// Whether the lanes of the failing equations in each of the first v sets sum to zero in n bytes. Those of the others are zero. One list of
+// places serves all sets.
 fn lanes_agree(lanes: &[u8], checks: &[u64; bits::ROOM], v: usize, failing: u64, n: usize) -> bool
     requires { ⌜ (length (now lanes) ≡ room) × (n ≤ lane) × (v ≤ 64) × (length (now checks) ≡ 64) ⌝ }
-    ensures { λ r. ⌜ Says ((j : ℕ) → j < v → (i : ℕ) → i < n → laneSum (now (lanes .entry)) (bitAnd (getD (now (checks .entry)) j 0) failing) i ≡ 0) r ⌝ }
+    ensures { λ r. ⌜ Says ((j : ℕ) → j < v → (i : ℕ) → i < n
+        → laneSum (now (lanes .entry)) (bitAnd (getD (now (checks .entry)) j 0) failing) i ≡ 0) r ⌝ }
 {
     let mut places = [0usize; bits::ROOM];
     let mut j = 0;

@@ -112,6 +112,9 @@ module _ (bytes : List ℕ) (place : ℕ) where
   unfolding sumAt xors
   one-sum t = zero-⊕ (getD bytes (place + t) 0)
 
+pub one-first : (bytes : List ℕ) (t : ℕ) → sumAt bytes (0 ∷ []) t ≡ getD bytes t 0
+one-first bytes t = one-sum bytes 0 t ∙ ap (λ (i : ℕ). getD bytes i 0) (zero-add t)
+
 -- one byte alone of the XOR of the runs
 
 pub byte-more : (s places : List ℕ) (k t sum : ℕ) → sum ≡ sumTo s places k t → bitXor sum (getD s (getD places k 0 + t) 0) ≡ sumTo s places (k + 1) t
@@ -281,7 +284,7 @@ pub with-block : (sum₀ sum₁ sum₂ s places other : List ℕ) (at from n : �
 unfolding addedTo
 with-block sum₀ sum₁ sum₂ s places other at from n r₁ r first second =
     says-zero n (addedTo sum₁ 0 other (0 ∷ []) from) (λ t. sumAt s places (at + t) ⊕ getD other (from + t) 0) r
-    (λ t l. ap₂ _⊕_ (first .put .inner t l) (one-sum other 0 (from + t) ∙ ap (λ (i : ℕ). getD other i 0) (zero-add (from + t))))
+    (λ t l. ap₂ _⊕_ (first .put .inner t l) (one-first other (from + t)))
     (summed-says sum₁ sum₂ 0 n (addedTo sum₁ 0 other (0 ∷ []) from) r second)
 
 pub summed-none : (s : List ℕ) (to : ℕ) (f : ℕ → ℕ) → Summed s to 0 f s true

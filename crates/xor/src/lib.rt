@@ -113,8 +113,8 @@ pub fn put_sum(s: &mut [u8], places: &[usize], to: usize, at: usize, n: usize) -
     let mut done = 0;
     while done < n {
         let next = block_at(done, n);
-        let now = put_block(s, places, to, at + next, BLOCK);
-        zero = zero & now;
+        let block = put_block(s, places, to, at + next, BLOCK);
+        zero = zero & block;
         done = next + BLOCK;
     }
     zero
@@ -170,8 +170,8 @@ pub fn put_sum_whole(d: &mut [u8], s: &[u8], places: &[usize], at: usize) -> boo
     let mut done = 0;
     while done < n {
         let next = block_at(done, n);
-        let now = put_block_from(d, next, s, places, at + next, BLOCK);
-        zero = zero & now;
+        let block = put_block_from(d, next, s, places, at + next, BLOCK);
+        zero = zero & block;
         done = next + BLOCK;
     }
     zero
@@ -192,8 +192,8 @@ pub fn put_sum_listed(d: &mut [u8], s: &[u8], places: &[usize], at: usize) -> bo
     let mut done = 0;
     while done < n {
         let next = block_at(done, n);
-        let now = put_block_from(d, next, s, places, at + next, BLOCK);
-        zero = zero & now;
+        let block = put_block_from(d, next, s, places, at + next, BLOCK);
+        zero = zero & block;
         done = next + BLOCK;
     }
     zero
@@ -234,7 +234,7 @@ pub fn sum_byte(s: &[u8], places: &[usize], t: usize) -> u8
     sum
 }
 
-// The first of n bytes of a block that is not zero; n where all are.
+// One of n bytes of a block that is not zero; n where all are.
 fn nonzero_byte(block: [u8; BLOCK], n: usize) -> usize
     requires { ⌜ n ≤ 128 ⌝ }
     ensures { λ r. ⌜ NonzeroAt (λ i. getD block i 0) n r ⌝ }
@@ -249,7 +249,7 @@ fn nonzero_byte(block: [u8; BLOCK], n: usize) -> usize
     n
 }
 
-// The first of n bytes of the XOR of the runs at the places, from `at` on, that is not zero; n where all are.
+// One of n bytes of the XOR of the runs at the places, from `at` on, that is not zero; n where all are.
 fn nonzero_block(s: &[u8], places: &[usize], at: usize, n: usize) -> usize
     requires { ⌜ (n ≤ 128) × Inside (length (now s)) (now places) (at + n) ⌝ }
     ensures { λ r. ⌜ NonzeroAt (λ t. sumAt (now (s .entry)) (now (places .entry)) (at + t)) n r ⌝ }
@@ -261,7 +261,7 @@ fn nonzero_block(s: &[u8], places: &[usize], at: usize, n: usize) -> usize
     nonzero_byte(sum, n)
 }
 
-// The first of n bytes of the XOR of the runs at the places, from `at` on, that is not zero, in blocks; n where all are.
+// One of n bytes of the XOR of the runs at the places, from `at` on, that is not zero, in blocks; n where all are.
 pub fn nonzero_at(s: &[u8], places: &[usize], at: usize, n: usize) -> usize
     requires { ⌜ Inside (length (now s)) (now places) (at + n) × (at + n < 2 ^ 64) ⌝ }
     ensures { λ r. ⌜ NonzeroAt (λ t. sumAt (now (s .entry)) (now (places .entry)) (at + t)) n r ⌝ }
@@ -293,48 +293,48 @@ fn add_block_sum(d: &mut [u8], to: usize, s: &[u8], places: &[usize], at: usize,
 
 // XORs into the run of n bytes of d at `to` those from `at` on of the runs of s at the places. Answers whether it is all zero now.
 pub fn add_sum(d: &mut [u8], to: usize, s: &[u8], places: &[usize], at: usize, n: usize) -> bool
-    requires { ⌜ Inside (length (now s)) (now places) (at + n) × (to + n ≤ length (now d)) × (at + n < 2 ^ 64) ⌝ }
+    requires { ⌜ Inside (length (now s)) (now places) (at + n) × (to + n ≤ length (now d)) ⌝ }
     ensures { λ r. ⌜ Summed (now (d .entry)) to n (addedTo (now (d .entry)) to (now (s .entry)) (now (places .entry)) at) (now (d .exit)) r ⌝ }
 {
     if places.len() == 0 {
-        // nothing is XORed in, and the run is as it was
+        // nothing is XORed in: the answer is of the run as it stands
         let own = [to; 1];
         return nonzero_at(d, &own[..1], 0, n) == n;
     }
     let mut zero = true;
     let mut done = 0;
     while BLOCK <= n - done {
-        let now = add_block_sum(d, to + done, s, places, at + done, BLOCK);
-        zero = zero & now;
+        let block = add_block_sum(d, to + done, s, places, at + done, BLOCK);
+        zero = zero & block;
         done += BLOCK;
     }
     if done < n {
-        let now = add_block_sum(d, to + done, s, places, at + done, n - done);
-        zero = zero & now;
+        let block = add_block_sum(d, to + done, s, places, at + done, n - done);
+        zero = zero & block;
     }
     zero
 }
 
 // The same for equations that share cells. It stands beside add_sum since a second caller of that would cost the rebuilds their speed.
 pub fn add_shared(d: &mut [u8], to: usize, s: &[u8], places: &[usize], at: usize, n: usize) -> bool
-    requires { ⌜ Inside (length (now s)) (now places) (at + n) × (to + n ≤ length (now d)) × (at + n < 2 ^ 64) ⌝ }
+    requires { ⌜ Inside (length (now s)) (now places) (at + n) × (to + n ≤ length (now d)) ⌝ }
     ensures { λ r. ⌜ Summed (now (d .entry)) to n (addedTo (now (d .entry)) to (now (s .entry)) (now (places .entry)) at) (now (d .exit)) r ⌝ }
 {
     if places.len() == 0 {
-        // nothing is XORed in, and the run is as it was
+        // nothing is XORed in: the answer is of the run as it stands
         let own = [to; 1];
         return nonzero_at(d, &own[..1], 0, n) == n;
     }
     let mut zero = true;
     let mut added = 0;
     while BLOCK <= n - added {
-        let now = add_block_sum(d, to + added, s, places, at + added, BLOCK);
-        zero = zero & now;
+        let block = add_block_sum(d, to + added, s, places, at + added, BLOCK);
+        zero = zero & block;
         added += BLOCK;
     }
     if added < n {
-        let now = add_block_sum(d, to + added, s, places, at + added, n - added);
-        zero = zero & now;
+        let block = add_block_sum(d, to + added, s, places, at + added, n - added);
+        zero = zero & block;
     }
     zero
 }
@@ -354,8 +354,9 @@ pub fn sums_to_zero_with(s: &[u8], places: &[usize], at: usize, n: usize, other:
     let mut done = 0;
     while done < n {
         let next = block_at(done, n);
-        put_block_from(&mut sum, 0, s, places, at + next, BLOCK);
-        if !add_block_sum(&mut sum, 0, other, &first[..1], next, BLOCK) {
+        let own = put_block_from(&mut sum, 0, s, places, at + next, BLOCK);
+        let all = add_block_sum(&mut sum, 0, other, &first[..1], next, BLOCK);
+        if !all {
             return false;
         }
         done = next + BLOCK;
@@ -393,8 +394,8 @@ pub fn add_difference(s: &mut [u8], to: usize, from: usize, new: &[u8]) -> bool
     let mut zero = true;
     let mut done = 0;
     while BLOCK <= n - done {
-        let now = add_block_difference(s, to, from, new, done, BLOCK);
-        zero = zero & now;
+        let block = add_block_difference(s, to, from, new, done, BLOCK);
+        zero = zero & block;
         done += BLOCK;
     }
     let last = add_block_difference(s, to, from, new, done, n - done);

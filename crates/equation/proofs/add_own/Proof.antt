@@ -16,7 +16,7 @@ slice-aggregate-add-shared : tie.Need-slice-aggregate-add-shared
 slice-aggregate-add-shared c = let a = c .before .before .before .before .before .before in sym (listed-long (a .args .shape) (a .args .stripe .now) (a .args .at) (a .args .n) (a .pre .0) _ _ _ (c .before .before .cells-of .ensures))
 
 add-shared-requires : tie.Need-add-shared-requires
-add-shared-requires c κs = let a = c .before .before .before .before .before .before in (listed-inside (a .args .shape) (a .args .stripe .now) (a .args .at) (a .args .n) (a .pre .0) _ _ _ (c .before .before .cells-of .ensures), omega (arith, a .pre .2), omega (arith, a .pre .0 .ends, a .pre .0 .formed .cellHigh))
+add-shared-requires c κs = let a = c .before .before .before .before .before .before in (listed-inside (a .args .shape) (a .args .stripe .now) (a .args .at) (a .args .n) (a .pre .0) _ _ _ (c .before .before .cells-of .ensures), omega (arith, a .pre .2))
 
 same-length : tie.Need-same-length
 same-length c = search needs

@@ -11,7 +11,7 @@ slice-aggregate-add-shared : tie.Need-slice-aggregate-add-shared
 slice-aggregate-add-shared c = search needs
 
 add-shared-requires : tie.Need-add-shared-requires
-add-shared-requires c κs = let a = c .before .before .before .before in (one-inside (a .args .shared .now) 0 (0 + a .args .n) (omega (arith, a .pre .1)), a .pre .0, omega (arith, a .fits .n))
+add-shared-requires c κs = let a = c .before .before .before .before in (one-inside (a .args .shared .now) 0 (0 + a .args .n) (omega (arith, a .pre .1)), a .pre .0)
 
 same-length : tie.Need-same-length
 same-length c = search needs

@@ -1,7 +1,10 @@
 -- `equation::fails` meets its contract. It fails where the XOR of its cells is not zero.
-use mathlib.Core.Path.{sym}
+use mathlib.Core.Path.{sym, _∙_}
+use Prim.Native.Nat.{_+_}
 use native.Mathlib.Omega.{arith}
-use Rattle.equation.proofs.Windows.{listed-long, listed-inside, listed-says, fails-own}
+use Rattle.codes.proofs.Shared.{own-total}
+use Rattle.equation.specs.Window.{bytesAt}
+use Rattle.equation.proofs.Windows.{listed-long, listed-inside, listed-sum, fails-by}
 use borrow.Author.Needs.{needs}
 use Rattle.equation.proofs.fails.Statement.{statement}
 use Rattle.equation.proofs.fails.Tie as tie
@@ -28,8 +31,10 @@ returns : tie.Need-returns
 returns c =
     let start = c .before .before .before .before .before in
     let a = start .args in
-    fails-own (a .shape) (a .stripe .now) (a .at) (a .n) (start .pre .0) (a .q) (start .pre .2) _
-    (listed-says (a .shape) (a .stripe .now) (a .at) (a .n) (start .pre .0) _ _ _ (c .before .before .cells-of .ensures) _ (c .sums-to-zero .ensures))
+    fails-by (a .shape) (a .stripe .now) (a .q) (a .at) (a .n) _
+    (λ i l. listed-sum (a .shape) (a .stripe .now) (a .at) (a .n) (start .pre .0) _ _ _ (c .before .before .cells-of .ensures) (a .stripe .now) (a .at + i)
+    ∙ own-total (a .shape) (a .q) (start .pre .2) (bytesAt (a .shape) (a .stripe .now) (a .at + i)))
+    _ (c .sums-to-zero .ensures)
 
 pub fails-spec : {M : Type 1} → statement M
 fails-spec =

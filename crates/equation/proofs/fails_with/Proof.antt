@@ -1,8 +1,11 @@
 -- `equation::fails_with` meets its contract. It fails where the XOR of its own cells and of what is shared is not zero.
-use mathlib.Core.Path.{sym}
+use mathlib.Core.Path.{sym, ap₂, _∙_}
+use Prim.Native.Nat.{_+_}
 use native.Mathlib.Omega.{arith}
-use Rattle.codes.proofs.Shared.{takes-shares}
-use Rattle.equation.proofs.Windows.{listed-long, listed-inside, listed-with, fails-shared}
+use Rattle.xor.specs.Xor.{_⊕_}
+use Rattle.codes.proofs.Shared.{takes-shares, shared-total}
+use Rattle.equation.specs.Window.{bytesAt}
+use Rattle.equation.proofs.Windows.{listed-long, listed-inside, listed-sum, fails-by}
 use borrow.Author.Needs.{needs}
 use Rattle.equation.proofs.fails_with.Statement.{statement}
 use Rattle.equation.proofs.fails_with.Tie as tie
@@ -29,8 +32,11 @@ returns : tie.Need-returns
 returns c =
     let start = c .before .before .before .before .before .before in
     let a = start .args in
-    fails-shared (a .shape) (a .stripe .now) (a .at) (a .n) (start .pre .0) (a .q) (start .pre .2) (a .shared .now) (start .pre .3) _
-    (listed-with (a .shape) (a .stripe .now) (a .at) (a .n) (start .pre .0) _ _ _ (c .before .before .cells-of .ensures) (a .shared .now) _ (c .sums-to-zero-with .ensures))
+    fails-by (a .shape) (a .stripe .now) (a .q) (a .at) (a .n) _
+    (λ i l. ap₂ _⊕_ (listed-sum (a .shape) (a .stripe .now) (a .at) (a .n) (start .pre .0) _ _ _ (c .before .before .cells-of .ensures) (a .stripe .now) (a .at + i))
+    (start .pre .3 .is (takes-shares (a .shape) (a .q) (start .pre .2)) i l)
+    ∙ shared-total (a .shape) (start .pre .0 .formed) (a .q) (start .pre .2) (bytesAt (a .shape) (a .stripe .now) (a .at + i)))
+    _ (c .sums-to-zero-with .ensures)
 
 pub fails-with-spec : {M : Type 1} → statement M
 fails-with-spec =

@@ -20,7 +20,6 @@ add-shared-requires c κs =
     let a = c .before .before .before .before .before .before in (
       listed-inside (a .args .shape) (a .args .stripe .now) (a .args .at) (a .args .n) (a .pre .0) _ _ _ (c .before .before .shared-cells .ensures),
       omega (arith, a .pre .2),
-      omega (arith, a .pre .0 .ends, a .pre .0 .formed .cellHigh),
     )
 
 same-length : tie.Need-same-length

@@ -50,7 +50,7 @@ returns-2 c =
     let more = c .before .before .add-shared .ensures in (
       set-shared (a .args .shape) (a .args .stripe .now) (a .args .at) (a .args .n) (a .pre .0 .formed) (a .args .q) takes (a .args .shared .now) (a .pre .2) _
           (parity-more (a .args .shape) _ (a .args .at) (a .args .n) w (a .args .q) (a .pre .1) _ there _ _ _ _ own (more .put)),
-      parity-zero (a .args .shape) _ (a .args .at) (a .args .n) w (a .args .q) (a .pre .1) _ there _ _ _ more,
+      parity-zero (a .args .shape) _ (a .args .at) (a .args .n) w (a .args .q) (a .pre .1) _ there _ _ (more .zero),
     )
 
 pub set-parity-spec : {M : Type 1} → statement M

@@ -65,7 +65,6 @@ add-sum-requires c κs =
     let there = start .pre .2 .there (turn .k) below in (
       lanes-inside (start .args .lanes .now) _ _ _ (c .before .before .list-members .ensures) (0 + start .args .n) _ (omega (arith, start .pre .0 .few)) (start .pre .0 .space),
       omega (arith, c .before .before .before .before .before .place-of .ensures, place-inside (start .args .shape) (w .formed) _ inside there, w .long, w .ends, turn .inv .2 .long),
-      omega (arith, start .pre .0 .few),
     )
 
 add-k : tie.Need-add-k Inv-loop μ-loop

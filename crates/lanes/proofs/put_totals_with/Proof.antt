@@ -3,7 +3,7 @@ use mathlib.Core.Path.{refl, sym, _∙_, subst}
 use mathlib.Core.Logic.{⊎-elim}
 use Prim.Native.Nat.{_+_, _-_, _≤_}
 use Rattle.xor.proofs.Runs.{summed-says}
-use Rattle.equation.proofs.Windows.{fails-says}
+use Rattle.equation.proofs.Windows.{fails-by}
 use Rattle.lanes.proofs.Lanes.{TotalsTo, totals-none, totals-more, totals-all, FailingTo, failing-none, failing-not, failing-more, failing-all}
 use native.Mathlib.Omega.{arith}
 use borrow.Author.Needs.{needs}
@@ -62,7 +62,7 @@ loop-again c =
     let a = start .args in
     let turn = c .before .before .before .before .before .before .loop in
     let total = c .before .before .before .put-total in
-    let fails = fails-says (a .shape) (a .stripe .now) _ (a .at) (a .n) (total .result) (summed-says _ _ _ (a .n) _ (total .result) (total .ensures)) in (
+    let fails = fails-by (a .shape) (a .stripe .now) _ (a .at) (a .n) _ (λ i l. refl) (total .result) (summed-says _ _ _ (a .n) _ (total .result) (total .ensures)) in (
       omega arith,
       totals-more (a .shape) (a .stripe .now) (a .at) (a .n) _ (turn .k) _ _ (start .pre .0 .few) (turn .inv .1) (total .ensures .put),
       ⊎-elim (λ w. subst (FailingTo (a .shape) (a .stripe .now) (a .at) (a .n) _ (turn .k + 1)) (sym (w .2)) (failing-more (a .shape) (a .stripe .now) (a .at) (a .n) _ (turn .k) (turn .failing) (turn .inv .2) _ (w .1 .ensures) (sym fails ∙ w .0 .taken)))

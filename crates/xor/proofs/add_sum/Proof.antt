@@ -39,7 +39,7 @@ add-add-block-sum : tie.Need-add-add-block-sum Inv-loop μ-loop
 add-add-block-sum c = omega (arith, c .before .before .before .before .before .before .before .pre .1)
 
 add-add-block-sum-2 : tie.Need-add-add-block-sum-2 Inv-loop μ-loop
-add-add-block-sum-2 c = omega (arith, c .before .before .before .before .before .before .before .pre .2)
+add-add-block-sum-2 c = omega (arith, c .before .before .before .before .before .before .before .pre .0 .ends 0 (omega arith))
 
 add-block-sum-requires : tie.Need-add-block-sum-requires Inv-loop μ-loop
 add-block-sum-requires c κs =
@@ -66,7 +66,7 @@ add-add-block-sum-3 : tie.Need-add-add-block-sum-3 Inv-loop μ-loop
 add-add-block-sum-3 c = omega (arith, c .before .before .before .before .before .before .before .before .pre .1)
 
 add-add-block-sum-4 : tie.Need-add-add-block-sum-4 Inv-loop μ-loop
-add-add-block-sum-4 c = omega (arith, c .before .before .before .before .before .before .before .before .pre .2)
+add-add-block-sum-4 c = omega (arith, c .before .before .before .before .before .before .before .before .pre .0 .ends 0 (omega arith))
 
 sub-add-block-sum : tie.Need-sub-add-block-sum Inv-loop μ-loop
 sub-add-block-sum c = omega arith
