@@ -227,6 +227,7 @@ END {
     bar_to_code("encode", "encode", 1, "encode of H-Code and X-Code / of RDP", 1.25, 0, 0)
     at_hand = "123"
     bar_to_call("broken", "encode", 1.15, 0)
+    bar_to_call("broken", "encode", 1.05, 1)
     bar_to_c("write", 1.1, 0)
     bar_over_p("write", 1.3)
     bar_of_count("balanced-plan", 300)
@@ -246,7 +247,7 @@ END {
     printf "\nOf EVENODD, p = 17 and 31, cells of 512 and 4,096 bytes:\n\n"
     at_hand = "4"
     bar_to_code("encode", "encode", 1, "encode / of RDP", 1.25, 1, 0)
-    bar_to_call("broken", "encode", 1.25, 1)
+    bar_to_call("broken", "encode", 1.2, 1)
     bar_to_code("write", "write", 2, "write / of H-Code", 1.1, 1, 0)
     bar_to_code("write-many", "write", 2, "write-many / p times write of H-Code", 0.5, 1, 1)
     bar_to_call("two-columns", "encode", 3, 1)

@@ -20,7 +20,7 @@ static uint64_t union_of(const uint64_t sets[SETS], uint64_t n)
 
 /* Says whether the total is zero in all n bytes. */
 static int put_total(struct zijraduf_shape shape, const uint8_t *stripe, uint64_t q, size_t at, size_t n,
-                      uint8_t lanes[LANES])
+                     uint8_t lanes[LANES])
 {
     uint64_t places[PLACES] = {0};
     uint64_t count = cells_of(shape, q, places);
@@ -28,7 +28,7 @@ static int put_total(struct zijraduf_shape shape, const uint8_t *stripe, uint64_
 }
 
 static int put_total_with(struct zijraduf_shape shape, const uint8_t *stripe, const uint8_t *shared,
-                           uint64_t q, size_t at, size_t n, uint8_t lanes[LANES])
+                          uint64_t q, size_t at, size_t n, uint8_t lanes[LANES])
 {
     uint64_t places[PLACES] = {0};
     uint64_t count = cells_with(shape, q, places);

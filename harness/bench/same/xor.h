@@ -28,15 +28,10 @@ static void sum_runs(uint8_t sum[BLOCK], const uint8_t *s, const uint64_t *place
     add_runs(sum, s, places, last, at, n);
 }
 
-/* Says whether the bytes stored are all zero. */
-static int put_bytes(uint8_t *s, size_t at, const uint8_t block[BLOCK], size_t n)
+static void put_bytes(uint8_t *s, size_t at, const uint8_t block[BLOCK], size_t n)
 {
-    uint8_t stored = 0;
-    for (size_t i = 0; i < n; i++) {
-        stored |= block[i];
+    for (size_t i = 0; i < n; i++)
         s[at + i] = block[i];
-    }
-    return stored == 0;
 }
 
 static int all_zero(const uint8_t block[BLOCK], size_t n)
@@ -122,12 +117,12 @@ static int is_sum_with(const uint8_t *s, const uint64_t *places, uint64_t count,
     return 1;
 }
 
-static int put_block_from(uint8_t *d, size_t to, const uint8_t *s, const uint64_t *places, uint64_t count, size_t at,
-                          size_t n)
+static void put_block_from(uint8_t *d, size_t to, const uint8_t *s, const uint64_t *places, uint64_t count, size_t at,
+                           size_t n)
 {
     uint8_t sum[BLOCK] = {0};
     sum_runs(sum, s, places, count, at, n);
-    return put_bytes(d, to, sum, n);
+    put_bytes(d, to, sum, n);
 }
 
 static void put_sum_from(uint8_t *d, size_t to, const uint8_t *s, const uint64_t *places, uint64_t count, size_t at,
@@ -145,18 +140,27 @@ static void put_sum_from(uint8_t *d, size_t to, const uint8_t *s, const uint64_t
     }
 }
 
-/* The same, and says whether the bytes stored are all zero. Apart, since what is called from several places can't drop
- * an answer that only one of them asks for. */
+/* The same, and says whether the bytes stored are all zero. Apart, since a function that is called from several places
+ * can't drop an answer that only one of them asks for. */
+static int put_block_zero(uint8_t *d, size_t to, const uint8_t *s, const uint64_t *places, uint64_t count, size_t at,
+                          size_t n)
+{
+    uint8_t sum[BLOCK] = {0};
+    sum_runs(sum, s, places, count, at, n);
+    put_bytes(d, to, sum, n);
+    return all_zero(sum, n);
+}
+
 static int put_sum_zero(uint8_t *d, size_t to, const uint8_t *s, const uint64_t *places, uint64_t count, size_t at,
                         size_t n)
 {
     if (n < BLOCK)
-        return put_block_from(d, to, s, places, count, at, n);
+        return put_block_zero(d, to, s, places, count, at, n);
     int zero = 1;
     size_t done = 0;
     while (done < n) {
         size_t next = block_at(done, n);
-        zero &= put_block_from(d, to + next, s, places, count, at + next, BLOCK);
+        zero &= put_block_zero(d, to + next, s, places, count, at + next, BLOCK);
         done = next + BLOCK;
     }
     return zero;
@@ -200,13 +204,13 @@ static size_t nonzero_at(const uint8_t *s, const uint64_t *places, uint64_t coun
     return n;
 }
 
-static int add_block_sum(uint8_t *d, size_t to, const uint8_t *s, const uint64_t *places, uint64_t count, size_t at,
-                         size_t n)
+static void add_block_sum(uint8_t *d, size_t to, const uint8_t *s, const uint64_t *places, uint64_t count, size_t at,
+                          size_t n)
 {
     uint8_t sum[BLOCK] = {0};
     add_bytes(sum, d, to, n);
     add_runs(sum, s, places, count, at, n);
-    return put_bytes(d, to, sum, n);
+    put_bytes(d, to, sum, n);
 }
 
 static void add_sum(uint8_t *d, size_t to, const uint8_t *s, const uint64_t *places, uint64_t count, size_t at,
@@ -224,16 +228,24 @@ static void add_sum(uint8_t *d, size_t to, const uint8_t *s, const uint64_t *pla
 }
 
 /* The run `from` of n bytes XORed into the run `to`. Says whether that is all zero now. */
+static int add_block_zero(uint8_t *d, size_t to, const uint8_t *from, size_t at, size_t n)
+{
+    uint8_t sum[BLOCK] = {0};
+    add_bytes(sum, d, to, n);
+    add_bytes(sum, from, at, n);
+    put_bytes(d, to, sum, n);
+    return all_zero(sum, n);
+}
+
 static int add_run_zero(uint8_t *d, size_t to, const uint8_t *from, size_t n)
 {
-    const uint64_t start[1] = {0};
     int zero = 1;
     size_t done = 0;
     while (BLOCK <= n - done) {
-        zero &= add_block_sum(d, to + done, from, start, 1, done, BLOCK);
+        zero &= add_block_zero(d, to + done, from, done, BLOCK);
         done += BLOCK;
     }
-    return done < n ? zero & add_block_sum(d, to + done, from, start, 1, done, n - done) : zero;
+    return done < n ? zero & add_block_zero(d, to + done, from, done, n - done) : zero;
 }
 
 static void add_block_difference(uint8_t *s, size_t to, size_t from, const uint8_t *bytes, size_t at, size_t n)
