@@ -83,7 +83,7 @@ returns-2 c =
     let next = c .before .before .before .before .before .before .before .before .block-at .result in
     zero-not (λ t. sum (a .at + t) ⊕ more t) (a .n) next 128 _ (omega arith)
     (block-on sum more (a .at) next _ (with-block _ _ _ (a .s .now) (a .places .now) (a .other .now) (a .at + next) next 128 _ _ (c .before .before .before .before .before .before .put-block-from2 .ensures) (c .before .before .add-block-sum2 .ensures)))
-    (not-true _ (c .if2 .taken))
+    (not-true (c .before .before .add-block-sum2 .result) (c .if2 .taken))
 
 add-done : tie.Need-add-done Inv-loop μ-loop
 add-done c = search needs
@@ -101,7 +101,7 @@ loop-again c =
       omega arith,
       search needs,
       zero-more (λ t. sum (a .at + t) ⊕ more t) next 128 (turn .done) (omega arith) (turn .inv .2)
-          (block-on sum more (a .at) next _ (with-block _ _ _ (a .s .now) (a .places .now) (a .other .now) (a .at + next) next 128 _ _ (c .before .before .before .before .before .before .put-block-from2 .ensures) (c .before .before .add-block-sum2 .ensures)) .yes (not-false _ (c .if2 .left))),
+          (block-on sum more (a .at) next _ (with-block _ _ _ (a .s .now) (a .places .now) (a .other .now) (a .at + next) next 128 _ _ (c .before .before .before .before .before .before .put-block-from2 .ensures) (c .before .before .add-block-sum2 .ensures)) .yes (not-false (c .before .before .add-block-sum2 .result) (c .if2 .left))),
     )
 
 returns-3 : tie.Need-returns-3 Inv-loop μ-loop
