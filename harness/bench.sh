@@ -10,8 +10,8 @@
 #   --quick       p = 5, 17 and 31; cells of 512 and 4,096 bytes
 #   --counts      instructions only, no times
 #   --only CALLS  some calls, named as in the tables, and deciding; rebuild is two-columns,
-#                 one-column, four-cells, clean, bad-column, clean-lanes and deciding, with
-#                 encode and broken for their bars
+#                 one-column, four-cells, clean, bad-column and deciding, with encode and
+#                 broken for their bars
 #   --codes CODES some codes, by their numbers; for EVENODD's bars it takes '1 2 4'
 #   --lib FILE    measures FILE in place of what `rt staticlib zijraduf` makes
 #   --keep FOLDER leaves the driver and the figures there
@@ -27,7 +27,7 @@ primes='5 7 17 31'
 cells='512 1000 4096'
 codes='1 2 3 4'
 short='1m4 17' # RDP with four data columns
-rebuild='two-columns one-column four-cells clean bad-column clean-lanes deciding'
+rebuild='two-columns one-column four-cells clean bad-column deciding'
 stack_only='plan show job'
 untimed='balanced-plan deciding'
 only=$(sed -n 's/^    {"\([a-z-]*\)", .*/\1/p' "$ROOT/harness/bench/calls.c" | grep -vxF "$(printf '%s\n' $stack_only)")
@@ -324,8 +324,7 @@ header() {
     echo "  data cells with p of them."
     echo "- Two columns: 0 and 1; of the other pairs none takes 3 %, with m = 4 none 4 % more instructions, and of EVENODD none 3 % in C."
     echo "  One column: 0. Four cells: in four columns and four rows."
-    echo "  Clean: no cell is lost, and the stripe is encoded. Bad column: the middle one, every byte of it bad; each lane of 512 bytes is"
-    echo "  asked in turn, and each names it. Clean-lanes: each lane of an encoded stripe is asked in turn, and is clean."
+    echo "  Clean: no cell is lost, and the stripe is encoded. Bad column: the middle one, every byte of it bad."
     echo "- Run: all rows of the lost column 1 of RDP into a spare by the library's plan, made before; run-rows: by rows alone."
     echo "  No other column takes 1 % more instructions, with m = 4 none 9 %. With m below p - 1 a plan may read more than rows alone do."
     echo "  Balanced plan: asked for lost column 1, where p has one; it goes over no data. Run-balanced: a run by it, made before."

@@ -3,8 +3,8 @@
  *
  *   request  operation, shape (code, p, cell, whether m is given, m), row and column
  *            of a small write or a show, the two columns of a rebuild, k, plan, first
- *            row and budget of a run, rows done of a show, lane of a bad column, the
- *            loans, the `given` bytes of each
+ *            row and budget of a run, rows done of a show, the loans, the `given`
+ *            bytes of each
  *   answer   guards of each loan (0 unchanged, 1 changed before, 2 after, 3 both),
  *            refusal, count, finding, column, rows and reads of a plan, buffer, offset
  *            and length of a part, the `given` bytes of each loan after the call
@@ -60,8 +60,6 @@ enum operation {
     BALANCED_PLAN = 11,
 };
 
-_Static_assert(ZIJRADUF_LANE == 512, "the bytes of a lane");
-
 /* The longest job has five fields of a head and the most content, the longest answer two. */
 _Static_assert(ZIJRADUF_JOB_LONGEST == 5 * 3 + 1 + 1 + 2 + 2 * 2048 + 32768, "the longest job");
 _Static_assert(ZIJRADUF_ANSWER_LONGEST == 2 * 3 + 1 + 32768, "the longest answer");
@@ -72,7 +70,7 @@ struct request {
     uint64_t operation;
     struct zijraduf_shape shape;
     uint64_t row, column, columns[2];
-    uint64_t k, plan, first, budget, done, lane;
+    uint64_t k, plan, first, budget, done;
     struct loan loans[LOANS];
 };
 
@@ -211,7 +209,7 @@ static struct answer carry_out(const struct request *request, uint8_t *const len
         return (struct answer){.refusal = zijraduf_rebuild_columns(shape, stripe, length, request->columns[0],
                                                                    request->columns[1])};
     case BAD_COLUMN:
-        return found(zijraduf_bad_column(shape, stripe, length, request->lane));
+        return found(zijraduf_bad_column(shape, stripe, length));
     case PLAN:
         return planned(zijraduf_plan(shape, request->k));
     case RUN:

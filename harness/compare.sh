@@ -5,7 +5,7 @@
 #
 # Without --lib the library is proved and built first. --same compares the same calls in C,
 # harness/bench/same.c, in its place.
-# --short makes some 597,000 calls in place of 709,000, --long some three million; --faults
+# --short makes some 585,000 calls in place of 700,000, --long some three million; --faults
 # makes every call twice, with all that is lent right before an inaccessible page, and
 # right after one.
 set -eu

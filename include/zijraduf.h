@@ -47,7 +47,7 @@
  *         not exactly rows x cell
  *     6   a row, a column or a cell number is outside the stripe; of a run the first
  *         row, and of a show the rows done, is above p - 1; of a balanced plan also
- *         k = p; of bad column a lane that the cell doesn't reach
+ *         k = p
  *     7   a small write to a parity cell
  *     8   new bytes that are not one cell long
  *     9   a plan that is not accepted
@@ -138,15 +138,11 @@ uint64_t zijraduf_rebuild_cells(struct zijraduf_shape shape, uint8_t *stripe, si
 uint64_t zijraduf_rebuild_columns(struct zijraduf_shape shape, uint8_t *stripe, size_t length,
                                   uint64_t a, uint64_t b);
 
+/* What bad column finds. */
 enum {
-    ZIJRADUF_LANE = 512 /* bytes of a lane; the last lane of a cell may have fewer */
-};
-
-/* What bad column finds in a lane. */
-enum {
-    ZIJRADUF_CLEAN = 1,      /* every equation holds in each byte of the lane */
-    ZIJRADUF_COLUMN = 2,     /* one column, replaced alone in the lane, makes it so */
-    ZIJRADUF_UNEXPLAINED = 3 /* the lane is not clean, and no one column does */
+    ZIJRADUF_CLEAN = 1,      /* the stripe is encoded */
+    ZIJRADUF_COLUMN = 2,     /* one column, replaced alone, makes it encoded */
+    ZIJRADUF_UNEXPLAINED = 3 /* it is not encoded, and no one column does */
 };
 
 /* A refusal number, or 0 and a finding. The finding of a refused call is 0, which
@@ -157,26 +153,14 @@ struct zijraduf_finding {
     uint64_t column; /* where the finding is ZIJRADUF_COLUMN, else 0 */
 };
 
-/* Bad column: which one column alone explains a lane that is not clean. Lane n is
- * bytes 512 n to 512 n + 511 of every cell; the last lane is shorter where the cell is.
- * A lane is clean when every equation holds in each of its bytes: every lane is clean
- * exactly when the stripe is encoded. Of a lane that isn't, the column is named whose
- * bytes in this lane, replaced alone, make it clean, and there is never a second such
- * column. Bytes outside the lane have no effect, and the call only reads. What is named
- * explains the bytes; that cells of several other columns were altered and look the
- * same can't be told.
- *
- * Different lanes may name different columns. If none is unexplained and they name
- * one column between them, rebuild columns with it as a and b makes the replacement in
- * every lane; if they name two, rebuild columns with both does. Else mend each lane
- * that names a column by itself: copy its bytes of every cell, cell after cell, into a
- * stripe of its own with cells of that many bytes, rebuild the column there, and copy
- * them back.
- *
- * Gives the finding, or refusal 1, 2, 14, 4, 5 or 6: 6 where 512 n is the size of a
- * cell or more. */
+/* Bad column: which one column alone explains a stripe that is not encoded: the
+ * one whose replacement alone makes it encoded, and there is never a second such
+ * column. Rebuild columns with it as a and b makes the replacement. It looks at
+ * the whole stripe at once and only reads. What is named explains the bytes; that
+ * cells of several other columns were altered and look the same can't be told.
+ * Gives the finding, or refusal 1, 2, 14, 4 or 5. */
 struct zijraduf_finding zijraduf_bad_column(struct zijraduf_shape shape, const uint8_t *stripe,
-                                            size_t length, uint64_t lane);
+                                            size_t length);
 
 /* ---- RDP with one lost column: plans, run, show. The lost column is k, 0 to p, with
  * m given 0 to m + 1; the spare is one column, row i of it at i x cell. With m given,

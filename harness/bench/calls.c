@@ -41,21 +41,13 @@ static void one_column(uint8_t *m) { rebuild_columns(m, 0, 0); }
 static void four_cells(uint8_t *m) { rebuild_cells(m, 4); }
 static void clean(uint8_t *m) { rebuild_cells(m, 0); }
 
-/* Every lane in turn. Answers how many of them find that. */
-static void ask_lanes(const uint8_t *m, uint64_t finding, uint64_t column)
+/* No column is 0, and the bad column is another. */
+static void bad_column(uint8_t *m)
 {
-    uint64_t refusal = 0, found = 0;
-    for (uint64_t lane = 0; lane < hand.lanes; lane++) {
-        struct zijraduf_finding came = SAME(bad_column)(hand.shape, m, hand.length, lane);
-        refusal |= came.refusal;
-        found += came.finding == finding && came.column == column;
-    }
-    answer.refusal = refusal;
-    answer.value = found;
+    struct zijraduf_finding came = SAME(bad_column)(hand.shape, m, hand.length);
+    answer.refusal = came.refusal;
+    answer.value = came.column;
 }
-
-static void bad_column(uint8_t *m) { ask_lanes(m, ZIJRADUF_COLUMN, hand.bad_column); }
-static void clean_lanes(uint8_t *m) { ask_lanes(m, ZIJRADUF_CLEAN, 0); }
 
 static void run_all(uint8_t *m, uint64_t plan)
 {
@@ -113,8 +105,7 @@ const struct row SAME(rows)[] = {
     {"one-column", always, &one_lost, one_column, data_bytes, .answer = &none},
     {"four-cells", always, &four_lost, four_cells, data_bytes, .answer = &none},
     {"clean", always, &encoded, clean, data_bytes, .answer = &none},
-    {"bad-column", always, &damaged, bad_column, data_bytes, .answer = &hand.lanes},
-    {"clean-lanes", always, &encoded, clean_lanes, data_bytes, .answer = &hand.lanes},
+    {"bad-column", always, &damaged, bad_column, data_bytes, .answer = &hand.bad_column},
     {"run", has_spare, &spared, run_plan, data_bytes, .answer = &hand.rows},
     {"run-rows", has_spare, &spared, run_rows, data_bytes, .answer = &hand.rows},
     {"run-balanced", has_balance, &spared, run_balanced, data_bytes, .answer = &hand.rows},

@@ -35,7 +35,6 @@ void set_shape(struct zijraduf_shape shape)
     hand.many_column = shape.p - 1 - hand.row;
     hand.parities = shape.code == 1 ? 3 : 2;
     hand.bad_column = hand.columns / 2;
-    hand.lanes = (shape.cell + ZIJRADUF_LANE - 1) / ZIJRADUF_LANE;
     hand.lost_column = 1;
     hand.plan = zijraduf_plan(hand.shape, hand.lost_column).rows;
     hand.balanced_plan = has_balance() ? zijraduf_balanced_plan(hand.shape, hand.lost_column).rows : 0;

@@ -71,7 +71,7 @@ function tables(kind, title) {
     if (!(kind in kinds)) return
     printf "\n## %s\n", title
     table(kind, "Encode, broken, write", "encode broken write write-many")
-    table(kind, "Rebuild and bad column", "two-columns one-column four-cells clean bad-column clean-lanes")
+    table(kind, "Rebuild and bad column", "two-columns one-column four-cells clean bad-column")
     table(kind, "Run by plan", "run run-rows run-balanced")
 }
 
@@ -133,11 +133,11 @@ function same_row(row, call, code, p,    part) {
 function by(a, b) { return a == "" || b == "" ? "" : a / b }
 
 # Whether a row is of a call and of the codes at hand, with all data columns, and of the shapes that bars are held in
-# where `large` is set: 1, or the size of a cell, of those with such cells.
+# where `large` is set.
 function is_of(row, call, large,    part) {
     split(row, part, SUBSEP)
-    return part[1] == call && part[2] ~ "^[" at_hand "]$" && (!large || ((part[3] == 17 || part[3] == 31) && \
-        (large > 1 ? part[4] == large : part[4] == 512 || part[4] == 4096)))
+    return part[1] == call && part[2] ~ "^[" at_hand "]$" && \
+        (!large || ((part[3] == 17 || part[3] == 31) && (part[4] == 512 || part[4] == 4096)))
 }
 
 # A call of ours to another call of ours, and to the same in C.
@@ -145,7 +145,7 @@ function bar_to_call(call, other, most, large,    r) {
     limit = most
     for (r = 1; r <= count; r++) if (is_of(rows[r], call, large))
         take(by(figure(kind, rows[r], "ours"), figure(kind, same_row(rows[r], other, "", ""), "ours")), rows[r])
-    judge(call " / " other (large > 1 ? ", cells of " large " bytes," : ""))
+    judge(call " / " other)
 }
 
 function bar_to(call, who, name, most, large,    r) {
@@ -237,9 +237,7 @@ END {
     bar_to_call("four-cells", "encode", 2.2, 1)
     bar_to_call("clean", "broken", 1.15, 1)
     bar_to_call("bad-column", "broken", 3.5, 1)
-    bar_to_call("bad-column", "broken", 1.6, 4096)
-    bar_to_call("clean-lanes", "broken", 1.1, 512)
-    n = split("two-columns one-column four-cells clean bad-column clean-lanes run run-rows", list, " ")
+    n = split("two-columns one-column four-cells clean bad-column run run-rows", list, " ")
     for (k = 1; k <= n; k++) bar_to_c(list[k], 1.1, 1)
     bar_to("run", "sums", "its (p - 1)^2 cell XORs by the leaf that sums runs", 1.05, 1)
     bar_to("run", "leaf", "its (p - 1)^2 cell XORs one at a time", "", 1)
@@ -256,9 +254,7 @@ END {
     bar_to_call("four-cells", "encode", 2.2, 1)
     bar_to_call("clean", "broken", 1.15, 1)
     bar_to_call("bad-column", "broken", 3.5, 1)
-    bar_to_call("bad-column", "broken", 1.6, 4096)
-    bar_to_call("clean-lanes", "broken", 1.1, 512)
-    n = split("encode broken write write-many two-columns one-column four-cells clean bad-column clean-lanes", list, " ")
+    n = split("encode broken write write-many two-columns one-column four-cells clean bad-column", list, " ")
     for (k = 1; k <= n; k++) bar_to_c(list[k], 1.1, 1)
     bar_of_count("deciding", 400000)
 

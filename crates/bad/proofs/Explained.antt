@@ -1,32 +1,29 @@
--- Which columns explain values: exactly those whose checks sum to zero.
-use mathlib.Core.Path.{◌≡◌, sym, ap, ap₂, ◌∙◌}
+-- Which columns explain values: exactly those without which nothing is left of the totals.
+use mathlib.Core.Path.{◌≡◌, sym, ap, ap₂, ◌∙◌, subst}
 use mathlib.Core.Logic.{◌≢◌}
 use mathlib.Core.List.{List}
-use mathlib.Core.Bool.{Bool, true, cond}
-use Prim.Native.Nat.{ℕ, ◌/◌, ◌%◌, ◌<◌}
+use mathlib.Core.Bool.{Bool, cond}
+use Prim.Native.Nat.{ℕ, ◌+◌, ◌/◌, ◌%◌, ◌<◌}
 use native.Mathlib.Nat.{mod-lt}
 use native.Mathlib.Omega.{arith}
 use lib.Dec.{eqb}
 use lib.ListN.{get_or}
 use borrow.Author.Tests.{eq-eqb, ne_eqb, eqb-true}
 use Rattle.xor.specs.Xor.{◌⊕◌, xors}
-use Rattle.xor.specs.Runs.{Says}
 use Rattle.xor.proofs.Cases.{by_equal, not_passed}
 use Rattle.xor.proofs.Algebra.{⊕_zero, ⊕_self, equal_⊕}
-use Rattle.xor.proofs.Runs.{says_same}
 use Rattle.xor.proofs.Sums.{xors_same, nothing, xors_one, Lists, xors_listed}
 use Rattle.codes.specs.declared.Shape.{Shape}
-use Rattle.codes.specs.Shape.{rows, columns, cells, equations, cell_number, WellFormed}
-use Rattle.codes.specs.Encoded.{total, Solves}
+use Rattle.codes.specs.Shape.{rows, columns, cells, disks, equations, cell_number, WellFormed}
+use Rattle.codes.specs.Geometry.{column_of}
+use Rattle.codes.proofs.Geometry.{column_there}
+use Rattle.codes.specs.Encoded.{total}
 use Rattle.codes.specs.Holders.{holds}
 use Rattle.codes.proofs.Shapes.{rows_low}
 use Rattle.codes.proofs.Positions.{row_is, column_is, cell_is, cell_inside}
 use Rattle.codes.proofs.Solutions.{plus, total_plus, total_zero, zero_total, total_holds}
 use Rattle.columns.proofs.Alone.{lowest_there, lowest_alone}
-use Rattle.equation.specs.Window.{bytes_at}
-use Rattle.decide.specs.Solver.{summed}
-use Rattle.lanes.specs.Lanes.{Passes}
-use Rattle.bad.specs.Search.{Explains, ColumnChecks, ExplainsWhere}
+use Rattle.bad.specs.Candidate.{Explains, TotalsOf, Without, Candidate}
 
 -- the value of each row in the cells of column c, and 0 elsewhere
 abbrev in_column : Shape → ℕ → (ℕ → ℕ) → ℕ → ℕ
@@ -35,6 +32,10 @@ in_column s c value k = cond (eqb (k / rows s) c) (value (k % rows s)) 0
 -- the part of equation q that lies in column c, where v are the values of its rows
 abbrev column_sum : Shape → ℕ → ℕ → (ℕ → ℕ) → ℕ
 column_sum s q c v = xors (rows s) (λ i. cond (holds s q (cell_number s i c)) (v i) 0)
+
+-- no column at a place below c explains values with these totals
+abbrev pub NoneBelow : Shape → List ℕ → ℕ → Type 0
+NoneBelow s totals c = (f : ℕ → ℕ) → TotalsOf s f totals → (d : ℕ) → d < c → Explains s f (column_of s d) → ⊥
 
 module _ (s : Shape) (w : WellFormed s) (c : ℕ) (lc : c < columns s) where
   -- ---- sums over one column
@@ -67,73 +68,78 @@ module _ (s : Shape) (w : WellFormed s) (c : ℕ) (lc : c < columns s) where
       xors_same (rows s) (λ i. cond (holds s q (cell_number s i c)) (v i) 0) (λ i. cond (holds s q (cell_number s i c)) (u i) 0)
       (λ i l. ap (λ (x : ℕ). cond (holds s q (cell_number s i c)) x 0) (e i l))
 
-  -- ---- the checks of the column
+  -- ---- what is left without the column
 
-  module _ (checks : List ℕ) (h : ColumnChecks s c (rows s) checks) (f : ℕ → ℕ) where
-    -- how the cell in row i differs from the right one where the column alone is wrong
-    abbrev differs : ℕ → ℕ
-    differs i = total s (h.lowest i) f
-
-    -- f with the cells of the column put right
-    abbrev pub put_right : ℕ → ℕ
-    put_right = plus f (in_column s c differs)
-
-    off_column : (k : ℕ) → k / rows s ≢ c → in_column s c differs k ≡ 0
-    off_column k n = ap (λ (b : Bool). cond b (differs (k % rows s)) 0) (ne_eqb (k / rows s) c n)
-
-    pub right_off : (k : ℕ) → k / rows s ≢ c → put_right k ≡ f k
-    right_off k n = ap (λ (x : ℕ). f k ⊕ x) (off_column k n) ∙ ⊕_zero (f k)
-
-    -- the checks sum to zero: this solves the equations
-    pub right_solves : ((q : ℕ) → q < equations s → summed s (get_or checks q 0) f ≡ 0) → Solves s put_right
-    right_solves zero q lq =
-        zero_total s q (plus f y)
-        (total_plus s q f y
-        ∙ ap (λ (x : ℕ). total s q f ⊕ x) (column_total y (λ k l. off_column k) q lq ∙ column_same q (λ i. y (cell_number s i c)) differs at)
-        ∙ sym (h.sum f q lq) ∙ zero q lq)
+  module _ (f : ℕ → ℕ) (totals rest : List ℕ) (t : TotalsOf s f totals) (h : Without s totals c (rows s) rest) where
+    -- nothing: the column explains the values
+    explains_by : ((q : ℕ) → q < equations s → get_or rest q 0 ≡ 0) → Explains s f c
+    explains_by zero = record {
+      inside = lc;
+      mended = plus f y;
+      solves = λ q lq. zero_total s q (plus f y)
+          (total_plus s q f y
+          ∙ ap₂ ◌⊕◌ (sym (t.of q lq)) (column_total y (λ k l. off k) q lq ∙ column_same q (λ i. y (cell_number s i c)) h.value at)
+          ∙ sym (h.left q lq) ∙ zero q lq);
+      agree = λ k l n. ap (λ (x : ℕ). f k ⊕ x) (off k n) ∙ ⊕_zero (f k);
+    }
       where
         y : ℕ → ℕ
-        y = in_column s c differs
+        y = in_column s c h.value
 
-        at : (i : ℕ) → i < rows s → y (cell_number s i c) ≡ differs i
-        at i l = ap₂ (λ (b : Bool) (j : ℕ). cond b (differs j) 0) (eq-eqb (cell_number s i c / rows s) c (column_is s w i c l)) (row_is s w i c l)
+        off : (k : ℕ) → k / rows s ≢ c → y k ≡ 0
+        off k n = ap (λ (b : Bool). cond b (h.value (k % rows s)) 0) (ne_eqb (k / rows s) c n)
 
-    -- the column explains the values: the checks sum to zero
-    pub explained_zero : Explains s f c → (q : ℕ) → q < equations s → summed s (get_or checks q 0) f ≡ 0
+        at : (i : ℕ) → i < rows s → y (cell_number s i c) ≡ h.value i
+        at i l = ap₂ (λ (b : Bool) (j : ℕ). cond b (h.value j) 0) (eq-eqb (cell_number s i c / rows s) c (column_is s w i c l)) (row_is s w i c l)
+
+    -- the column explains the values: nothing is left
+    explained_zero : Explains s f c → (q : ℕ) → q < equations s → get_or rest q 0 ≡ 0
     explained_zero e q lq =
-        h.sum f q lq ∙ ap₂ ◌⊕◌ (total_is q lq) (column_same q differs (λ i. y (cell_number s i c)) differs_is) ∙ ⊕_self (column_sum s q c (λ i. y (cell_number s i c)))
+        h.left q lq ∙ ap₂ ◌⊕◌ (total_is q lq) (column_same q h.value (λ i. y (cell_number s i c)) value_is) ∙ ⊕_self (column_sum s q c (λ i. y (cell_number s i c)))
       where
         y : ℕ → ℕ
         y = plus f e.mended
 
         -- the totals are those of y, which is 0 off the column
-        total_is : (r : ℕ) → r < equations s → total s r f ≡ column_sum s r c (λ i. y (cell_number s i c))
+        total_is : (r : ℕ) → r < equations s → get_or totals r 0 ≡ column_sum s r c (λ i. y (cell_number s i c))
         total_is r lr =
-            sym (total_plus s r f e.mended ∙ ap (λ (x : ℕ). total s r f ⊕ x) (total_zero s r e.mended (e.solves r lr)) ∙ ⊕_zero (total s r f))
+            t.of r lr
+            ∙ sym (total_plus s r f e.mended ∙ ap (λ (x : ℕ). total s r f ⊕ x) (total_zero s r e.mended (e.solves r lr)) ∙ ⊕_zero (total s r f))
             ∙ column_total y (λ k l n. equal_⊕ (f k) (e.mended k) (sym (e.agree k l n))) r lr
 
-        -- the lowest equation that holds a cell holds no other cell of the column
-        differs_is : (i : ℕ) → i < rows s → differs i ≡ y (cell_number s i c)
-        differs_is i l =
-            let first = h.lowest i in
-            let lowest = h.is i l in
-            let inside = cell_inside s w i c l lc in
-            let there = lowest_there s w (cell_number s i c) inside first lowest in
-            total_is first there
-            ∙ xors_one (rows s) (λ j. cond (holds s first (cell_number s j c)) (y (cell_number s j c)) 0) i l
-            (λ j lj n. ap (λ (b : Bool). cond b (y (cell_number s j c)) 0)
-            (not_passed (λ p. n (column_cells.once j i lj l (lowest_alone s w (cell_number s i c) inside first lowest (cell_number s j c) (column_is s w j c lj ∙ sym (column_is s w i c l)) p)))))
-            ∙ ap (λ (b : Bool). cond b (y (cell_number s i c)) 0) (lowest.passes there)
+        same_row : (j i : ℕ) → j < rows s → i < rows s → cell_number s j c ≡ cell_number s i c → j ≡ i
+        same_row j i lj li e = sym (row_is s w j c lj) ∙ ap (λ (k : ℕ). k % rows s) e ∙ row_is s w i c li
 
-  -- the checks tell of each byte that passes a test whether the column explains it
-  pub checks_tell : (checks : List ℕ) → ColumnChecks s c (rows s) checks → (stripe : List ℕ) (test : ℕ → Bool) (r : Bool)
-      → Says ((t : ℕ) → t < s.cell → test t ≡ true → Passes s stripe (equations s) checks t) r → Says (ExplainsWhere s stripe test c) r
-  checks_tell checks h stripe test r =
-      says_same ((t : ℕ) → t < s.cell → test t ≡ true → Passes s stripe (equations s) checks t) (ExplainsWhere s stripe test c) r
-      (λ passes. record {
-        inside = lc;
-        mended = λ t. put_right checks h (bytes_at s stripe t);
-        solves = λ t l p. right_solves checks h (bytes_at s stripe t) (passes t l p).zero;
-        agree = λ t l p k lk n. right_off checks h (bytes_at s stripe t) k n;
-      })
-      (λ e t l p. record { zero = explained_zero checks h (bytes_at s stripe t) (record { inside = lc; mended = e.mended t; solves = e.solves t l p; agree = e.agree t l p }) })
+        -- the lowest equation that holds a cell holds no other cell of the column
+        value_is : (i : ℕ) → i < rows s → h.value i ≡ y (cell_number s i c)
+        value_is i l =
+            let by = h.by i l in
+            let inside = cell_inside s w i c l lc in
+            let there = lowest_there s w (cell_number s i c) inside by.0 by.1 in
+            by.2 ∙ total_is by.0 there
+            ∙ xors_one (rows s) (λ j. cond (holds s by.0 (cell_number s j c)) (y (cell_number s j c)) 0) i l
+            (λ j lj n. ap (λ (b : Bool). cond b (y (cell_number s j c)) 0)
+            (not_passed (λ p. n (same_row j i lj l (lowest_alone s w (cell_number s i c) inside by.0 by.1 (cell_number s j c) (column_is s w j c lj ∙ sym (column_is s w i c l)) p)))))
+            ∙ ap (λ (b : Bool). cond b (y (cell_number s i c)) 0) (by.1.passes there)
+
+-- ---- the candidate: the column at place c
+
+module _ (s : Shape) (w : WellFormed s) (c : ℕ) (lc : c < disks s) (column : ℕ) (is : column ≡ column_of s c) (totals rest : List ℕ) (h : Without s totals column (rows s) rest) where
+  there : column < columns s
+  there = omega (arith, column_there s w c lc)
+
+  -- something is left: the column is passed over
+  pub none_more : (next q : ℕ) → next ≡ c + 1 → NoneBelow s totals c → q < equations s → get_or rest q 0 ≢ 0 → NoneBelow s totals next
+  none_more next q one before lq left f t d l e =
+      by_equal d c (λ same. left (explained_zero s w column there f totals rest t h (subst (Explains s f) (ap (column_of s) same ∙ sym is) e) q lq)) (λ n. before f t d (omega arith) e)
+
+  pub candidate_here : (r : ℕ) → r ≡ c → ((q : ℕ) → q < equations s → get_or rest q 0 ≡ 0) → Candidate s totals r
+  candidate_here r same zero =
+      subst (Candidate s totals) (sym same) (record { most = omega arith; found = λ f t l. subst (Explains s f) is (explains_by s w column there f totals rest t h zero); none = λ f t l. absurd (omega arith) })
+
+pub candidate_none : (s : Shape) (totals : List ℕ) (c : ℕ) → c ≡ disks s → NoneBelow s totals c → Candidate s totals c
+candidate_none s totals c e before = record {
+  most = omega arith;
+  found = λ f t l. absurd (omega arith);
+  none = λ f t l d ld x. before f t d (omega arith) x;
+}

@@ -1,160 +1,227 @@
--- From the totals of a window to the column that explains what fails there.
+-- From the candidate and its check to what bad column promises: first of n bytes of each cell, from byte `at` on, then of the whole stripe.
 use mathlib.Core.Path.{◌≡◌, refl, sym, ap, ap₂, ◌∙◌, subst}
 use mathlib.Core.Logic.{◌≢◌}
 use mathlib.Core.List.{List}
-use mathlib.Core.Bool.{Bool, true, false, not, xor, ◌&&◌}
-use Prim.Native.Nat.{ℕ, ◌+◌, ◌-◌, ◌^◌, ◌≤◌, ◌<◌}
+use mathlib.Core.Bool.{Bool, true, false, cond, ◌||◌}
+use Prim.Native.Nat.{ℕ, zero, suc, ◌+◌, ◌/◌, ◌%◌, ◌^◌, ◌<◌}
+use native.Mathlib.Nat.{zero-add, mod-lt, mod-eq_of_lt}
 use native.Mathlib.Omega.{arith}
-use lib.Bits.{bit_and, bit_xor}
-use lib.Dec.{leb, ltb}
-use lib.ListN.{get_or}
-use borrow.Author.Tests.{le-leb, leb-true, lt-ltb, le-ltb, ltb-true}
+use lib.Bits.{bit_xor, xor_mod}
+use lib.Dec.{eqb}
+use lib.ListN.{length, get_or, get_or-eq_default}
+use borrow.Author.Tests.{eq-eqb, ne_eqb, eqb-true}
+use Rattle.xor.specs.Xor.{◌⊕◌, xors}
 use Rattle.xor.specs.Runs.{Says}
-use Rattle.xor.proofs.Cases.{by_less, by_equal, clash, and_left, and_right, and_both}
+use Rattle.xor.proofs.Cases.{by_equal, by_less, clash, either}
+use Rattle.xor.proofs.Algebra.{⊕_is}
 use Rattle.xor.proofs.Runs.{says_same}
-use Rattle.bits.specs.Bit.{bit, IsLowest}
-use Rattle.bits.proofs.Bits.{bit_xor_lem, bit_ones}
-use Rattle.bits.proofs.Tests.{take_out}
+use Rattle.xor.proofs.Sums.{xors_same}
+use Rattle.bits.specs.Bit.{IsLowest}
 use Rattle.codes.specs.declared.Shape.{Shape}
-use Rattle.codes.specs.Shape.{rows, columns, disks, equations, cell_number, WellFormed}
-use Rattle.codes.specs.Geometry.{column_of}
-use Rattle.codes.specs.Encoded.{total}
-use Rattle.codes.proofs.Shapes.{rows_low, few_columns, missing_low, disks_is}
-use Rattle.codes.proofs.Positions.{cell_inside}
-use Rattle.codes.proofs.Depends.{held_some}
-use Rattle.codes.proofs.Geometry.{column_there}
-use Rattle.codes.proofs.Solutions.{total_zero, zero_total}
-use Rattle.equation.specs.Window.{bytes_at, Window, fails_in}
-use Rattle.equation.proofs.Windows.{not_failing, holds_everywhere}
-use Rattle.lanes.specs.Lanes.{lane_sum, Totals, Failing, Passes}
-use Rattle.lanes.proofs.Lanes.{checks_say, failing_within, failing_tells, says_not, says_all}
-use Rattle.bad.specs.declared.BadColumn.TheVariants.{Clean, Column, Unexplained}
-use Rattle.bad.specs.Search.{ColumnChecks, Checked, Candidate, ExplainsWhere, CleanWhere, in_window, FindingIn}
-use Rattle.bad.proofs.Explained.{checks_tell}
+use Rattle.codes.specs.Shape.{rows, columns, cells, disks, equations, stripe_length, WellFormed}
+use Rattle.codes.specs.Geometry.{is_there, cell_there, column_of, lies_at, cell_of}
+use Rattle.codes.specs.Encoded.{parity_cell, sums_cell, byte_at, sum_over, total, Solves, Encoded}
+use Rattle.refusals.specs.Refusals.{refusal, stripe_faults}
+use Rattle.codes.specs.Agree.{in_columns}
+use Rattle.codes.proofs.Geometry.{column_there, is_there_lem, lies_column, byte_missing, byte_small}
+use Rattle.codes.proofs.Solutions.{total_zero, zero_total, solves_same}
+use Rattle.equation.specs.Window.{bytes_at, fails_in}
+use Rattle.equation.proofs.Windows.{not_failing}
+use Rattle.codes.proofs.Built.{built, Blank, built_long, built_at, built_byte}
+use Rattle.decide.specs.Survivors.{Undetermined}
+use Rattle.decide.specs.Solver.{mended, OnlyThere, Solver}
+use Rattle.decide.proofs.Determined.{kept_cell, columns_determined}
+use Rattle.lanes.specs.Lanes.{Passes}
+use Rattle.bad.specs.declared.BadColumn.{BadColumn}
+use Rattle.bad.specs.declared.BadColumn.TheVariants.{Clean, Column, Unexplained, Refused}
+use Rattle.bad.specs.Bad.{Replaceable, Finding, Finds}
+use Rattle.bad.specs.Candidate.{Explains, TotalsOf, Candidate, ExplainsIn, CleanIn, FindingIn}
+use Rattle.bad.proofs.OneBad.{one_explains}
 
--- ---- the bytes of a window
+-- ---- what the candidate says
 
-module _ (at n : ℕ) where
-  pub window_in : (i : ℕ) → i < n → in_window at n (at + i) ≡ true
-  unfolding in_window
-  window_in i l = and_both (le-leb at (at + i) (omega arith)) (lt-ltb (at + i) (at + n) (omega arith))
+module _ (s : Shape) (w : WellFormed s) (stripe : List ℕ) (at n : ℕ) where
+  -- no equation fails
+  pub clean_in : (r : ℕ) → IsLowest (equations s) (λ q. fails_in s stripe q at n) r → r ≡ equations s → CleanIn s stripe at n
+  clean_in r first e i l q lq = zero_total s q (bytes_at s stripe (at + i)) (not_failing s stripe q at n (first.before q (omega arith)) i l)
 
-  -- what holds in each byte of the window holds in those that pass the test
-  pub from_window : (P : ℕ → Type 0) → ((i : ℕ) → i < n → P (at + i)) → (t : ℕ) → in_window at n t ≡ true → P t
-  unfolding in_window
-  from_window P h t p =
-      let low = leb-true at t (and_left (leb at t) (ltb t (at + n)) p) in
-      let high = ltb-true t (at + n) (and_right (leb at t) (ltb t (at + n)) p) in
-      let is : at + (t - at) ≡ t = omega arith in
-      subst P is (h (t - at) (omega arith))
+  -- a column that explains all bytes explains each
+  explains_one : (c : ℕ) → ExplainsIn s stripe at n c → (i : ℕ) → i < n → Explains s (bytes_at s stripe (at + i)) c
+  explains_one c h i l = record { inside = h.inside; mended = h.mended i; solves = h.solves i l; agree = h.agree i l }
 
--- ---- the equations from q on
+  -- what is known of the candidate c: it was sought at a byte in which an equation fails
+  pub record Sought (c : ℕ) : Type 0 where
+    pub q : ℕ
+    pub i : ℕ
+    pub there : q < equations s
+    pub inside : i < n
+    pub fails : total s q (bytes_at s stripe (at + i)) ≢ 0
+    pub totals : List ℕ
+    pub of : TotalsOf s (bytes_at s stripe (at + i)) totals
+    pub candidate : Candidate s totals c
 
--- those below e without those below q
-pub later_set : (e q r x y : ℕ) → q < e → x ≡ 2 ^ e → y ≡ 2 ^ q → bit r (bit_xor (x - 1) (y - 1)) ≡ (not (ltb r q) && ltb r e)
-later_set e q r x y l ex ey =
-    ap₂ (λ (a b : ℕ). bit r (bit_xor (a - 1) (b - 1))) ex ey ∙ bit_xor_lem r (2 ^ e - 1) (2 ^ q - 1) ∙ ap₂ xor (bit_ones r e) (bit_ones r q)
-    ∙ take_out (ltb r e) (ltb r q) (λ p. lt-ltb r e (omega (arith, ltb-true r q p)))
+  module _ (c : ℕ) (h : Sought c) where
+    not_clean : CleanIn s stripe at n → ⊥
+    not_clean clean = h.fails (total_zero s h.q (bytes_at s stripe (at + h.i)) (clean h.i h.inside h.q h.there))
 
--- ---- what the totals tell
+    pub named_column : c < disks s → (column : ℕ) → column ≡ column_of s c → ExplainsIn s stripe at n column → FindingIn s stripe at n (Column c)
+    named_column l column e x = (not_clean, l, subst (ExplainsIn s stripe at n) e x)
 
--- equation q is the first that fails in the window; `failing` has those that do, and their lanes their totals
-pub record Known (s : Shape) (stripe : List ℕ) (at n q : ℕ) (lanes : List ℕ) (failing : ℕ) : Type 0 where
-  pub formed : WellFormed s
-  pub ends : at + n ≤ s.cell
-  pub there : q < equations s
-  pub first : IsLowest (equations s) (λ k. fails_in s stripe k at n) q
-  pub set : ℕ
-  pub totals : Totals s stripe set at n lanes
-  pub within : (r : ℕ) → bit r failing ≡ true → bit r set ≡ true
-  pub tells : (r : ℕ) → r < equations s → bit r failing ≡ fails_in s stripe r at n
+    pub none_named : c ≡ disks s → FindingIn s stripe at n Unexplained
+    none_named e = (not_clean, λ d ld x. h.candidate.none (bytes_at s stripe (at + h.i)) h.of (omega arith) d ld (explains_one (column_of s d) x h.i h.inside))
 
--- the totals from q on are enough: the equations before it hold
-pub known_by : (s : Shape) (stripe : List ℕ) (at n q set : ℕ) (lanes : List ℕ) (failing : ℕ) → Window s stripe at n → q < equations s → IsLowest (equations s) (λ k. fails_in s stripe k at n) q
-    → ((r : ℕ) → bit r set ≡ (not (ltb r q) && ltb r (equations s))) → Totals s stripe set at n lanes → Failing s stripe set at n failing → Known s stripe at n q lanes failing
-known_by s stripe at n q set lanes failing window there first later totals exact = record {
-  formed = window.formed;
-  ends = window.ends;
-  there = there;
-  first = first;
-  set = set;
-  totals = totals;
-  within = failing_within s stripe set at n failing exact;
-  tells = λ r l. by_less r q
-      (λ low. exact r ∙ ap (λ (b : Bool). b && fails_in s stripe r at n) (later r ∙ ap (λ (b : Bool). not b && ltb r (equations s)) (lt-ltb r q low)) ∙ sym (first.before r low))
-      (λ high. failing_tells s stripe set at n failing exact r (later r ∙ ap₂ (λ (a b : Bool). not a && b) (le-ltb r q high) (lt-ltb r (equations s) l)));
-}
+    pub not_this : c < disks s → (column : ℕ) → column ≡ column_of s c → (ExplainsIn s stripe at n column → ⊥) → FindingIn s stripe at n Unexplained
+    not_this l column is no' = (
+      not_clean,
+      λ d ld x. by_equal c d (λ e. no' (subst (ExplainsIn s stripe at n) (ap (column_of s) (sym e) ∙ sym is) x))
+          (λ e. h.fails (total_zero s h.q (bytes_at s stripe (at + h.i))
+          (one_explains s w (bytes_at s stripe (at + h.i)) (column_of s c) (column_of s d) (h.candidate.found (bytes_at s stripe (at + h.i)) h.of l) (explains_one (column_of s d) x h.i h.inside)
+          (λ same. e (sym (lies_column s w c) ∙ ap (lies_at s) same ∙ lies_column s w d)) h.q h.there))),
+    )
 
-module _ (s : Shape) (stripe : List ℕ) (at n q : ℕ) (lanes : List ℕ) (failing : ℕ) (h : Known s stripe at n q lanes failing) where
-  pub not_clean : CleanWhere s stripe (in_window at n) → ⊥
-  not_clean clean =
-      clash (h.first.passes h.there)
-      (holds_everywhere s stripe q at n (λ i l. let ends = h.ends in total_zero s q (bytes_at s stripe (at + i)) (clean (at + i) (omega arith) (window_in at n i l) q h.there)))
+-- ---- whether one column explains the bytes
 
-  -- the checks of a column say whether it explains the window
-  pub column_says : (column : ℕ) → column < columns s → (r : Bool) → Checked s lanes failing n column r → Says (ExplainsWhere s stripe (in_window at n) column) r
-  column_says column inside r checked =
-      checks_tell s h.formed column inside checked.checks checked.of stripe (in_window at n) r
-      (says_same ((i : ℕ) → i < n → Passes s stripe (equations s) checked.checks (at + i)) ((t : ℕ) → t < s.cell → in_window at n t ≡ true → Passes s stripe (equations s) checked.checks t) r
-      (λ passes t l p. from_window at n (Passes s stripe (equations s) checked.checks) passes t p)
-      (λ passes i l. let ends = h.ends in passes (at + i) (omega arith) (window_in at n i l))
-      (checks_say s h.formed stripe h.set at n lanes h.totals failing h.within (equations s) checked.checks r checked.of.sets (λ j l k p. h.tells k (checked.of.sets.below j l k p)) checked.says))
+-- the cells of one column, and those of the others
+module _ (s : Shape) (column : ℕ) (lost : ℕ → Bool) (marks : (c : ℕ) → c < cells s → lost c ≡ in_columns s column column c) where
+  off_column : (k : ℕ) → k < cells s → k / rows s ≢ column → lost k ≡ false
+  unfolding in_columns
+  off_column k l n = marks k l ∙ rw (ne_eqb (k / rows s) column n) refl
 
-  module _ (d : ℕ) (first : Candidate s lanes failing n d) where
-    pub named_column : d < disks s → FindingIn s stripe at n (Column d)
-    named_column l = (not_clean, (l, (column_says (column_of s d) (column_there s h.formed d l) true (first.here l)).yes refl))
+  in_column_lem : (k : ℕ) → k < cells s → lost k ≡ false → k / rows s ≢ column
+  unfolding in_columns
+  in_column_lem k l e same = clash (marks k l ∙ ap₂ ◌||◌ (eq-eqb (k / rows s) column same) (eq-eqb (k / rows s) column same)) e
 
-    pub none_named : d ≡ disks s → FindingIn s stripe at n Unexplained
-    none_named e = (not_clean, λ k x. let l = x.0 in (column_says (column_of s k) (column_there s h.formed k l) false (first.before k (omega arith))).no refl x.1)
+  -- they exist where the column does
+  pub column_only : is_there s column ≡ true → OnlyThere s lost
+  unfolding in_columns cell_there
+  column_only there k l p =
+      either (eqb (k / rows s) column) (eqb (k / rows s) column) (sym (marks k l) ∙ p) (λ e. ap (is_there s) (eqb-true (k / rows s) column e) ∙ there) (λ e. ap (is_there s) (eqb-true (k / rows s) column e) ∙ there)
 
--- ---- the columns, one after the other
+module _ (s : Shape) (w : WellFormed s) (column : ℕ) (inside : column < columns s) (stripe : List ℕ) (at n : ℕ)
+    (lost : ℕ → Bool) (marks : (c : ℕ) → c < cells s → lost c ≡ in_columns s column column c) where
+  -- one column is never undetermined
+  pub column_determined : Undetermined s lost → ⊥
+  column_determined h = columns_determined s w column column inside inside (record {
+    one = h.one;
+    other = h.other;
+    one_is = h.one_is;
+    other_is = h.other_is;
+    agree = record { same = λ c l e. h.agree.same c l (marks c l ∙ e) };
+    differ = h.differ;
+  })
 
--- there is a column, and an equation
-module _ (s : Shape) (w : WellFormed s) where
-  pub some_disk : 0 < disks s
-  some_disk = omega (arith, disks_is s w, missing_low s w, few_columns s w)
+  pub column_says : (u : ℕ) (list sets : List ℕ) (v : ℕ) (checks : List ℕ) → Solver s lost u list sets v checks → (r : Bool)
+      → Says ((i : ℕ) → i < n → Passes s stripe v checks (at + i)) r → Says (ExplainsIn s stripe at n column) r
+  column_says u list sets v checks solver r =
+      says_same ((i : ℕ) → i < n → Passes s stripe v checks (at + i)) (ExplainsIn s stripe at n column) r
+      (λ passes. record {
+        inside = inside;
+        mended = λ i. mended s list sets u (bytes_at s stripe (at + i));
+        solves = λ i l. solver.solves (bytes_at s stripe (at + i)) (passes i l).zero;
+        agree = λ i l k lk off. kept_cell s w lost u list sets v checks solver (bytes_at s stripe (at + i)) k (off_column s column lost marks k lk off);
+      })
+      (λ h i l. record {
+        zero = solver.needed (bytes_at s stripe (at + i)) (h.mended i) (h.solves i l) (λ k lk e. sym (h.agree i l k lk (in_column_lem s column lost marks k lk e)));
+      })
 
-  pub some_equation : 0 < equations s
-  some_equation =
-      let cell = cell_inside s w 0 0 (omega (arith, rows_low s w)) (omega (arith, missing_low s w, few_columns s w)) in
-      let some = held_some s w (cell_number s 0 0) cell in omega (arith, some.1)
+-- ---- the whole stripe
 
-module _ (s : Shape) (lanes : List ℕ) (failing n : ℕ) where
-  -- the lanes of the failing equations in set k cancel
-  abbrev pub Cancels : List ℕ → ℕ → Type 0
-  Cancels checks k = (i : ℕ) → i < n → lane_sum lanes (bit_and (get_or checks k 0) failing) i ≡ 0
+-- values that solve the equations do so in their low eight bits
+module _ (s : Shape) where
+  xors_low : (n : ℕ) (f : ℕ → ℕ) → xors n f % 2 ^ 8 ≡ xors n (λ k. f k % 2 ^ 8)
+  unfolding xors
+  xors_low zero f = refl
+  xors_low (suc n) f =
+      ap (λ (x : ℕ). x % 2 ^ 8) (⊕_is (xors n f) (f n)) ∙ xor_mod (xors n f) (f n) 8 ∙ ap (λ (x : ℕ). bit_xor x (f n % 2 ^ 8)) (xors_low n f)
+      ∙ sym (⊕_is (xors n (λ k. f k % 2 ^ 8)) (f n % 2 ^ 8))
 
-  -- one check more, from the last down
-  pub cancels_more : (checks : List ℕ) (e q : ℕ) → 1 ≤ q → ((k : ℕ) → q ≤ k → k < e → Cancels checks k) → Cancels checks (q - 1) → (k : ℕ) → q - 1 ≤ k → k < e → Cancels checks k
-  cancels_more checks e q some before here k lo hi = by_equal k (q - 1) (λ same. subst (Cancels checks) (sym same) here) (λ n. before k (omega arith) hi)
+  sum_low : (q : ℕ) (f : ℕ → ℕ) → sum_over s q f % 2 ^ 8 ≡ sum_over s q (λ k. f k % 2 ^ 8)
+  unfolding sum_over
+  sum_low q f =
+      xors_low (cells s) (λ c. cond (sums_cell s q c) (f c) 0)
+      ∙ xors_same (cells s) (λ c. cond (sums_cell s q c) (f c) 0 % 2 ^ 8) (λ c. cond (sums_cell s q c) (f c % 2 ^ 8) 0) (λ c l. low (sums_cell s q c) (f c))
+    where
+      low : (b : Bool) (x : ℕ) → cond b x 0 % 2 ^ 8 ≡ cond b (x % 2 ^ 8) 0
+      low true x = refl
+      low false x = refl
 
-  -- the columns at the places below d don't do
-  abbrev pub NoneBelow : ℕ → Type 0
-  NoneBelow d = (k : ℕ) → k < d → Checked s lanes failing n (column_of s k) false
+  solves_low : (f : ℕ → ℕ) → Solves s f → Solves s (λ k. f k % 2 ^ 8)
+  solves_low f h q l = ap (λ (x : ℕ). x % 2 ^ 8) (h q l) ∙ sum_low q f
 
-  module _ (d : ℕ) (checks : List ℕ) (of : ColumnChecks s (column_of s d) (rows s) checks) where
-    -- one of its checks fails: the column is passed over
-    pub none_more : (q next : ℕ) (r : Bool) → next ≡ d + 1 → NoneBelow d → q < equations s → Says (Cancels checks q) r → r ≡ false → NoneBelow next
-    none_more q next r one before l says no' k lk =
-        by_equal k d (λ e. subst (λ (j : ℕ). Checked s lanes failing n (column_of s j) false) (sym e) (record { checks = checks; of = of; says = says_not (Cancels checks) (equations s) q r l says no' }))
-        (λ e. before k (omega arith))
+module _ (s : Shape) (w : WellFormed s) (stripe : List ℕ) (long : length stripe ≡ stripe_length s) (bytes : (i : ℕ) → get_or stripe i 0 < 256) where
+  -- byte 0 + t is byte t
+  whole_clean : CleanIn s stripe 0 s.cell → Encoded s stripe
+  whole_clean h = record { holds = λ q lq t l. subst (λ (k : ℕ). byte_at s stripe (parity_cell s q) k ≡ sum_over s q (bytes_at s stripe k)) (zero-add t) (h t l q lq) }
 
-    pub candidate_here : d < disks s → NoneBelow d → ((q : ℕ) → q < equations s → Cancels checks q) → Candidate s lanes failing n d
-    candidate_here l before all = record {
-      most = omega arith;
-      here = λ here. record { checks = checks; of = of; says = says_all (Cancels checks) (equations s) (equations s) (omega arith) all };
-      before = before;
+  clean_whole : Encoded s stripe → CleanIn s stripe 0 s.cell
+  clean_whole e i l q lq = subst (λ (k : ℕ). byte_at s stripe (parity_cell s q) k ≡ sum_over s q (bytes_at s stripe k)) (sym (zero-add i)) (e.holds q lq i l)
+
+  -- a column that explains every byte can be replaced
+  module _ (d : ℕ) (inside : d < disks s) (h : ExplainsIn s stripe 0 s.cell (column_of s d)) where
+    byte_of : ℕ → ℕ → ℕ
+    byte_of t k = h.mended t k % 2 ^ 8
+
+    -- 0 in the cells that don't exist: they are in other columns
+    blank : Blank s byte_of
+    unfolding byte_of cell_there
+    blank t l k lk none =
+        ap (λ (x : ℕ). x % 2 ^ 8) (h.agree t l k lk (λ e. clash (ap (is_there s) e ∙ is_there_lem s w d) none) ∙ byte_missing s w stripe k (0 + t) none)
+
+    witness : List ℕ
+    witness = built s byte_of
+
+    witness_bytes : (i : ℕ) → get_or witness i 0 < 256
+    unfolding witness byte_of
+    witness_bytes i =
+        by_less i (stripe_length s)
+        (λ l. subst (λ (x : ℕ). x < 256) (sym (built_byte s byte_of i l)) (mod-lt (h.mended (i % s.cell) (cell_of s (i / s.cell))) (omega arith)))
+        (λ l. subst (λ (x : ℕ). x < 256) (sym (get_or-eq_default witness 0 (omega (arith, built_long s byte_of)))) (omega arith))
+
+    replaced_by : Replaceable s stripe d
+    unfolding witness byte_of in_columns
+    replaced_by = record {
+      inside = inside;
+      replaced = witness;
+      restores = record {
+        is = record {
+          long = built_long s byte_of;
+          bytes = witness_bytes;
+          encoded = record { holds = λ q lq t l. solves_same s w (byte_of t) (bytes_at s witness t) (λ k lk. sym (built_at s w byte_of blank k lk t l)) (solves_low s (h.mended t) (h.solves t l)) q lq };
+        };
+        agree = record {
+          same = λ k lk e t l.
+              let other : k / rows s ≢ column_of s d = λ same. clash (ap₂ ◌||◌ (eq-eqb (k / rows s) (column_of s d) same) (eq-eqb (k / rows s) (column_of s d) same)) e in
+              sym (built_at s w byte_of blank k lk t l ∙ ap (λ (x : ℕ). x % 2 ^ 8) (h.agree t l k lk other ∙ ap (byte_at s stripe k) (zero-add t)) ∙ mod-eq_of_lt (byte_small s w stripe bytes k t));
+        };
+      };
     }
 
-  pub candidate_none : (d : ℕ) → d ≡ disks s → NoneBelow d → Candidate s lanes failing n d
-  candidate_none d e before = record { most = omega arith; here = λ l. absurd (omega arith); before = before }
+  -- and one that can be replaced explains every byte
+  explains_whole : (d : ℕ) → Replaceable s stripe d → ExplainsIn s stripe 0 s.cell (column_of s d)
+  unfolding in_columns
+  explains_whole d h = record {
+    inside = column_there s w d h.inside;
+    mended = bytes_at s h.replaced;
+    solves = λ i l q lq. h.restores.is.encoded.holds q lq i l;
+    agree = λ i l k lk other. sym (h.restores.agree.same k lk (rw (ne_eqb (k / rows s) (column_of s d) other) refl) i l) ∙ ap (byte_at s stripe k) (sym (zero-add i));
+  }
 
--- ---- where no equation fails
+  pub finding_whole : (answer : BadColumn) → FindingIn s stripe 0 s.cell answer → Finding s stripe answer
+  finding_whole Clean h = whole_clean h
+  finding_whole (Column d) h = (λ e. h.0 (clean_whole e), replaced_by d h.1 h.2)
+  finding_whole Unexplained h = (λ e. h.0 (clean_whole e), λ d r. h.1 d r.inside (explains_whole d r))
+  finding_whole (Refused number) h = absurd h
 
-pub clean_in : (s : Shape) (stripe : List ℕ) (at n r : ℕ) → IsLowest (equations s) (λ q. fails_in s stripe q at n) r → r ≡ equations s → FindingIn s stripe at n Clean
-clean_in s stripe at n r first e t l p q lq =
-    zero_total s q (bytes_at s stripe t) (from_window at n (λ u. total s q (bytes_at s stripe u) ≡ 0) (not_failing s stripe q at n (first.before q (omega arith))) t p)
+-- an accepted stripe's finding
+pub finding_so : (s : Shape) (stripe : List ℕ) (answer : BadColumn) → 0 ≡ refusal (stripe_faults s (length stripe)) → Finding s stripe answer → Finds s stripe answer
+finding_so s stripe Clean right h = record { number = right; finding = λ z. h }
+finding_so s stripe (Column c) right h = record { number = right; finding = λ z. h }
+finding_so s stripe Unexplained right h = record { number = right; finding = λ z. h }
+finding_so s stripe (Refused number) right h = absurd h
 
 -- the first that passes is there, unless it is past the last
-pub first_below : (n : ℕ) (test : ℕ → Bool) (r m : ℕ) → IsLowest n test r → m ≡ n → r ≢ m → r < n
-first_below n test r m h e other = let most = h.most in omega arith
+pub first_below : (n : ℕ) (test : ℕ → Bool) (r m : ℕ) → IsLowest n test r → m ≡ n → r ≢ m → (r < n) × (test r ≡ true)
+first_below n test r m h e other = (below, h.passes below)
+  where
+    below : r < n
+    below = let most = h.most in omega arith

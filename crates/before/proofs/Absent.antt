@@ -1,5 +1,5 @@
--- But for the code that came later, with no number of data columns given, and for RDP with all p-1 of them given, every call is as it was, bad column in
--- cells of one lane: what it may answer, and which bytes it may leave, is what document 01's contract of it allowed, and nothing else.
+-- But for the code that came later, with no number of data columns given, and for RDP with all p-1 of them given, every call is as it was: what it may
+-- answer, and which bytes it may leave, is what document 01's contract of it allowed, and nothing else.
 use mathlib.Core.Path.{◌≡◌, refl, ap, ◌∙◌}
 use mathlib.Core.Logic.Iff
 use mathlib.Core.Logic.{◌↔◌, ◌≢◌}
@@ -11,25 +11,23 @@ use Rattle.codes.specs.declared.Shape.{Shape}
 use Rattle.codes.specs.declared.Width.TheVariants.{Full, Data}
 use Rattle.codes.specs.Shape.{last_code, listed, missing, without, wrong_data}
 use Rattle.codes.proofs.Shapes.{each_prime}
-use Rattle.bad.specs.Bad.{Finds}
-use Rattle.before.proofs.Calls.{Call, encode, broken, small_write, rebuild_cells, rebuild_columns, bad_column, plan, run, show, show_reason, shown_at, Allowed, Allowed01, Asked01}
+use Rattle.before.proofs.Calls.{Call, encode, broken, small_write, rebuild_cells, rebuild_columns, bad_column, plan, run, show, show_reason, shown_at, Allowed, Allowed01}
 use Rattle.before.proofs.Moved.{along, full, Whole}
-use Rattle.before.proofs.Lanes.{lanes_as}
 use Rattle.before.proofs.Carried.{encodes_as, counts_as, writes_as, cells_rebuilt_as, columns_rebuilt_as, finds_as, plans_as, runs_as, shows_as, reason_as, shown_as}
 
--- the law: where no column is missing a call that document 01 knows may do what it might before, and nothing else. Whatever the numbers are: a refused call is a call too
-pub as_before : (s : Shape) → Whole s → (c : Call) → Asked01 s c → Allowed s c ↔ Allowed01 (full s) c
-as_before s w (encode old answer new) known = encodes_as s w old answer new
-as_before s w (broken stripe answer) known = counts_as s w stripe answer
-as_before s w (small_write row column bytes old new answer) known = writes_as s w row column bytes old new answer
-as_before s w (rebuild_cells numbers old answer new) known = cells_rebuilt_as s w numbers old answer new
-as_before s w (rebuild_columns a b old answer new) known = columns_rebuilt_as s w a b old answer new
-as_before s w (bad_column lane stripe answer) only = Iff.trans (along (λ i. Finds s stripe (only.0 i) answer)) (finds_as s w only.1 stripe answer)
-as_before s w (plan k answer) known = plans_as s w k answer
-as_before s w (run k by first budget stripe old new answer) known = runs_as s w k by first budget stripe old new answer
-as_before s w (show k done row column stripe spare answer) known = shows_as s w k done row column stripe spare answer
-as_before s w (show_reason k done row column stripe spare answer) known = along (λ i. answer ≡ reason_as s w k done row column stripe spare i)
-as_before s w (shown_at bytes spare k done row column answer) known = shown_as s w k done row column bytes spare answer
+-- the law: where no column is missing a call may do what it might before, and nothing else. Whatever the numbers are: a refused call is a call too
+pub as_before : (s : Shape) → Whole s → (c : Call) → Allowed s c ↔ Allowed01 (full s) c
+as_before s w (encode old answer new) = encodes_as s w old answer new
+as_before s w (broken stripe answer) = counts_as s w stripe answer
+as_before s w (small_write row column bytes old new answer) = writes_as s w row column bytes old new answer
+as_before s w (rebuild_cells numbers old answer new) = cells_rebuilt_as s w numbers old answer new
+as_before s w (rebuild_columns a b old answer new) = columns_rebuilt_as s w a b old answer new
+as_before s w (bad_column stripe answer) = finds_as s w stripe answer
+as_before s w (plan k answer) = plans_as s w k answer
+as_before s w (run k by first budget stripe old new answer) = runs_as s w k by first budget stripe old new answer
+as_before s w (show k done row column stripe spare answer) = shows_as s w k done row column stripe spare answer
+as_before s w (show_reason k done row column stripe spare answer) = along (λ i. answer ≡ reason_as s w k done row column stripe spare i)
+as_before s w (shown_at bytes spare k done row column answer) = shown_as s w k done row column bytes spare answer
 
 -- no number given
 absent : (s : Shape) → s.code ≢ last_code → s.width ≡ Full → Whole s
@@ -59,32 +57,13 @@ all_given s rdp e =
 -- ---- document 02, request 01
 
 -- with m absent every answer and every byte is as it was, whatever the code is but the one that came later
-pub absent_as_before : (s : Shape) → s.code ≢ last_code → s.width ≡ Full → (c : Call) → Asked01 s c → Allowed s c ↔ Allowed01 (full s) c
+pub absent_as_before : (s : Shape) → s.code ≢ last_code → s.width ≡ Full → (c : Call) → Allowed s c ↔ Allowed01 (full s) c
 absent_as_before s known e = as_before s (absent s known e)
 
 -- with m = p-1 for RDP too
-pub all_as_before : (s : Shape) → s.code ≡ 1 → s.width ≡ Data (s.p - 1) → (c : Call) → Asked01 s c → Allowed s c ↔ Allowed01 (full s) c
+pub all_as_before : (s : Shape) → s.code ≡ 1 → s.width ≡ Data (s.p - 1) → (c : Call) → Allowed s c ↔ Allowed01 (full s) c
 all_as_before s rdp e = as_before s (all_given s rdp e)
 
--- so m = p-1 gives the same as m absent, in every lane too
+-- so m = p-1 gives the same as m absent
 pub all_as_absent : (s : Shape) → s.code ≡ 1 → s.width ≡ Data (s.p - 1) → (c : Call) → Allowed s c ↔ Allowed (full s) c
-all_as_absent s rdp e = same
-  where
-    none : Whole (full s)
-    none = absent (full s) (λ z. omega arith) refl
-
-    by : (c : Call) → Asked01 s c → Asked01 (full s) c → Allowed s c ↔ Allowed (full s) c
-    by c known known' = Iff.trans (all_as_before s rdp e c known) (Iff.symm (as_before (full s) none c known'))
-
-    same : (c : Call) → Allowed s c ↔ Allowed (full s) c
-    same (encode old answer new) = by (encode old answer new) tt tt
-    same (broken stripe answer) = by (broken stripe answer) tt tt
-    same (small_write row column bytes old new answer) = by (small_write row column bytes old new answer) tt tt
-    same (rebuild_cells numbers old answer new) = by (rebuild_cells numbers old answer new) tt tt
-    same (rebuild_columns a b old answer new) = by (rebuild_columns a b old answer new) tt tt
-    same (bad_column lane stripe answer) = lanes_as s (all_given s rdp e) none stripe lane answer
-    same (plan k answer) = by (plan k answer) tt tt
-    same (run k by' first budget stripe old new answer) = by (run k by' first budget stripe old new answer) tt tt
-    same (show k done row column stripe spare answer) = by (show k done row column stripe spare answer) tt tt
-    same (show_reason k done row column stripe spare answer) = by (show_reason k done row column stripe spare answer) tt tt
-    same (shown_at bytes spare k done row column answer) = by (shown_at bytes spare k done row column answer) tt tt
+all_as_absent s rdp e c = Iff.trans (all_as_before s rdp e c) (Iff.symm (absent_as_before (full s) (λ z. omega arith) refl c))

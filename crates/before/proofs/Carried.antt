@@ -1,4 +1,4 @@
--- Where no column is missing: each contract says what document 01's said, and the other way round; of bad column that of cells of one lane.
+-- Where no column is missing: each contract says what document 01's said, and the other way round.
 use mathlib.Core.Path.{◌≡◌, sym, ◌∙◌}
 use mathlib.Core.Logic.Iff
 use mathlib.Core.Logic.{◌↔◌, ◌≢◌}
@@ -23,8 +23,7 @@ use Rattle.decide.specs.Survivors.{EncodedStripe, Undetermined, Restores}
 use Rattle.rebuild.specs.Rebuild.{Decides, undetermined, disagree, restored, Rebuilds, RebuildsCells, RebuildsColumns}
 use Rattle.bad.specs.declared.BadColumn.{BadColumn}
 use Rattle.bad.specs.declared.BadColumn.TheVariants.{Clean, Column, Unexplained, Refused as BadRefused}
-use Rattle.bad.specs.Bad.{lane_bytes, Finds}
-use Rattle.bad.proofs.Whole.{WholeReplaceable, WholeFinding, finds_whole}
+use Rattle.bad.specs.Bad.{Replaceable, Finding, Finds}
 use Rattle.plan.specs.declared.PlanAnswer.{PlanAnswer}
 use Rattle.plan.specs.Plan.{by_rule, ByRule}
 use Rattle.plan.specs.Plans.{GivesPlan, Plans}
@@ -179,7 +178,7 @@ module _ (s : Shape) (w : Whole s) where
       let all = Iff.trans moved (rebuilds_as (was.callers_columns (full s) a b) (was.refusal (was.columns_faults (full s) (length old) a b)) old answer new) in
       (λ e. record { rebuilds = all.0 e.rebuilds; never = e.never }, λ e. record { rebuilds = all.1 e.rebuilds; never = e.never })
 
-  replaceable_as : (stripe : List ℕ) (c : ℕ) → WholeReplaceable s stripe c ↔ was.Replaceable (full s) stripe c
+  replaceable_as : (stripe : List ℕ) (c : ℕ) → Replaceable s stripe c ↔ was.Replaceable (full s) stripe c
   replaceable_as stripe c =
       let inside = along (λ i. c < disks_all s w i) in (
         λ e. record { inside = inside.0 e.inside; replaced = e.replaced; restores = (restores e.replaced).0 e.restores },
@@ -189,7 +188,7 @@ module _ (s : Shape) (w : Whole s) where
       restores : (x : List ℕ) → Restores s (callers_columns s c c) stripe x ↔ was.Restores (full s) (was.callers_columns (full s) c c) stripe x
       restores x = Iff.trans (along (λ i. Restores s (lost_as s w i c c) stripe x)) (restores_as (was.callers_columns (full s) c c) stripe x)
 
-  finding_as : (stripe : List ℕ) (answer : BadColumn) → WholeFinding s stripe answer ↔ was.Finding (full s) stripe answer
+  finding_as : (stripe : List ℕ) (answer : BadColumn) → Finding s stripe answer ↔ was.Finding (full s) stripe answer
   finding_as stripe Clean = encoded_as stripe
   finding_as stripe (Column c) =
       let not_clean = Iff.not (encoded_as stripe) in
@@ -199,12 +198,10 @@ module _ (s : Shape) (w : Whole s) where
       (λ e. (not_clean.0 e.0, λ c. (Iff.not (replaceable_as stripe c)).0 (e.1 c)), λ e. (not_clean.1 e.0, λ c. (Iff.not (replaceable_as stripe c)).1 (e.1 c)))
   finding_as stripe (BadRefused number) = (λ e. e, λ e. e)
 
-  -- lane 0 of cells of at most 512 bytes
-  pub finds_as : s.cell ≤ lane_bytes → (stripe : List ℕ) (answer : BadColumn) → Finds s stripe 0 answer ↔ was.Finds (full s) stripe answer
-  finds_as short stripe answer =
+  pub finds_as : (stripe : List ℕ) (answer : BadColumn) → Finds s stripe answer ↔ was.Finds (full s) stripe answer
+  finds_as stripe answer =
       let number = stripe_refused s w (length stripe) in
-      let finding = finding_as stripe answer in
-      Iff.trans (finds_whole s short stripe answer) (
+      let finding = finding_as stripe answer in (
         λ e. record { number = e.number ∙ number; finding = λ z. finding.0 (e.finding z) },
         λ e. record { number = e.number ∙ sym number; finding = λ z. finding.1 (e.finding z) },
       )

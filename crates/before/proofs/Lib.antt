@@ -3,5 +3,4 @@ pub mod Document01
 pub mod Calls
 pub mod Moved
 pub mod Carried
-pub mod Lanes
 pub mod Absent

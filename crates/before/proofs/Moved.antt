@@ -21,7 +21,6 @@ use Rattle.refusals.specs.Refusals.{Fault, fault, order, applies, first_of, refu
 use Rattle.codes.specs.Holders.{holds}
 use Rattle.codes.proofs.Geometry.{there_all, column_all, lies_all}
 use Rattle.decide.specs.Survivors.{named}
-use Rattle.bad.specs.Bad.{lane_bytes, lane_faults}
 use Rattle.plan.specs.Plan.{diagonal, chosen, reads_cell, cells_read, is_accepted}
 use Rattle.plan.specs.Refusals.{not_rdp, plan_faults}
 use Rattle.spare.specs.Refusals.{spare_faults, run_faults}
@@ -139,11 +138,6 @@ module _ (s : Shape) (w : Whole s) where
   pub columns_refused : (bytes a b : ℕ) → refusal (columns_faults s bytes a b) ≡ was.refusal (was.columns_faults (full s) bytes a b)
   unfolding columns_faults was.columns_faults applies columns
   columns_refused bytes a b = stripe_more bytes (λ i. outside a (disks_all i) ∷ outside b (disks_all i) ∷ []) (refl, refl)
-
-  -- those of a lane, which document 01 doesn't know
-  pub lane_refused : (bytes n : ℕ) → refusal (lane_faults s bytes n) ≡ was.refusal (was.stripe_faults (full s) bytes ++ outside (lane_bytes * n) s.cell ∷ [])
-  unfolding lane_faults applies
-  lane_refused bytes n = stripe_more bytes refl (refl, refl)
 
   -- those of a call for RDP alone, and on a lent stripe and a lent spare
   pub plan_refused : (k : ℕ) → refusal (plan_faults s k) ≡ was.refusal (was.plan_faults (full s) k)

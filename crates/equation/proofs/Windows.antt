@@ -1,6 +1,6 @@
 -- From runs of bytes to cells: what the XOR of the runs of an equation's cells says of the equation in a window.
 use mathlib.Core.Path.{◌≡◌, refl, sym, ap, ap₂, ◌∙◌, subst}
-use mathlib.Core.Logic.{◌⊎◌, inl, inr, ⊎_elim}
+use mathlib.Core.Logic.{◌≢◌, ◌⊎◌, inl, inr, ⊎_elim}
 use mathlib.Core.List.{List, [], ◌∷◌}
 use mathlib.Core.Bool.{Bool, true, false, not, ◌||◌}
 use Prim.Native.Nat.{ℕ, zero, suc, ◌+◌, ◌≤◌, ◌<◌}
@@ -11,10 +11,10 @@ use lib.ListN.{length, get_or, take, replicate, get_or-replicate, length-replica
 use borrow.Author.Tests.{eq-eqb, ne_eqb, eqb-true, not-false}
 use Rattle.xor.specs.Xor.{◌⊕◌}
 use Rattle.xor.specs.Sets.{any}
-use Rattle.xor.specs.Runs.{sum_at, added_to, Inside, Apart, Put, Says, Summed}
+use Rattle.xor.specs.Runs.{sum_at, added_to, Inside, Apart, Put, Says, Summed, NonzeroAt}
 use Rattle.xor.proofs.Cases.{by_test, by_equal, by_less, clash}
-use Rattle.xor.proofs.Algebra.{zero_⊕, ⊕_equal, equal_⊕}
-use Rattle.xor.proofs.Runs.{first_long, first_at, first_inside, first_sum, one_first, says_zero, put_same, summed_same}
+use Rattle.xor.proofs.Algebra.{zero_⊕, ⊕_comm, ⊕_equal, equal_⊕}
+use Rattle.xor.proofs.Runs.{first_long, first_at, first_inside, first_sum, one_inside, one_first, says_zero, put_same, summed_same, nonzero_same}
 use Rattle.xor.proofs.Sets.{none_any, any_none}
 use Rattle.codes.specs.declared.Shape.{Shape}
 use Rattle.codes.specs.declared.Sources.{Sources}
@@ -188,6 +188,27 @@ module _ (s : Shape) (stripe : List ℕ) (at n : ℕ) where
       };
       zero = two.zero;
     }
+
+-- the first byte that is not zero is there where the equation fails
+pub failing_at : (s : Shape) (stripe : List ℕ) (q at n : ℕ) (f : ℕ → ℕ) → ((i : ℕ) → i < n → f i ≡ total s q (bytes_at s stripe (at + i))) → (r : ℕ) → fails_in s stripe q at n ≡ true → NonzeroAt f n r
+    → (r < n) × (total s q (bytes_at s stripe (at + r)) ≢ 0)
+failing_at s stripe q at n f is r p found =
+    let z = nonzero_same n r f (λ i. total s q (bytes_at s stripe (at + i))) is found in
+    let l : r < n = by_less r n (λ l. l) (λ l. clash p (holds_everywhere s stripe q at n (z.none l))) in
+    (l, z.some l)
+
+-- the same of a buffer with what is shared, into which the equation's own cells are added
+module _ (s : Shape) (stripe : List ℕ) (q at n : ℕ) (w : WellFormed s) (takes : takes_shared s q ≡ true) (shared sum : List ℕ) (part : Shares s stripe at n shared)
+    (put : Put shared 0 n (λ i. get_or shared (0 + i) 0 ⊕ own_total s q (bytes_at s stripe (at + i))) sum) where
+  pub buffer_inside : Inside (length sum) (0 ∷ []) (0 + n)
+  buffer_inside = one_inside sum 0 (0 + n) (omega (arith, put.long, part.long (takes_shares s q takes)))
+
+  pub buffer_failing : (r : ℕ) → fails_in s stripe q at n ≡ true → NonzeroAt (λ t. sum_at sum (0 ∷ []) (0 + t)) n r → (r < n) × (total s q (bytes_at s stripe (at + r)) ≢ 0)
+  buffer_failing =
+      failing_at s stripe q at n (λ t. sum_at sum (0 ∷ []) (0 + t))
+      (λ i l. one_first sum (0 + i) ∙ put.inner i l
+      ∙ ap (λ (x : ℕ). x ⊕ own_total s q (bytes_at s stripe (at + i))) (ap (λ (k : ℕ). get_or shared k 0) (zero-add i) ∙ part.is (takes_shares s q takes) i l)
+      ∙ ⊕_comm (shared_sum s (bytes_at s stripe (at + i))) (own_total s q (bytes_at s stripe (at + i))) ∙ shared_total s w q takes (bytes_at s stripe (at + i)))
 
 -- ---- the whole cell
 

@@ -22,6 +22,10 @@ pub record Shares (s : Shape) (stripe : List ℕ) (at n : ℕ) (shared : List �
   pub long : shares s ≡ true → n ≤ length shared
   pub is : shares s ≡ true → (i : ℕ) → i < n → get_or shared i 0 ≡ shared_sum s (bytes_at s stripe (at + i))
 
+-- the same of byte t
+abbrev pub SharedByte : Shape → List ℕ → ℕ → ℕ → Type 0
+SharedByte s stripe t x = shares s ≡ true → x ≡ shared_sum s (bytes_at s stripe t)
+
 -- new is old with value i in byte i of the window of equation q's parity cell
 pub record ParityPut (s : Shape) (q at n : ℕ) (value : ℕ → ℕ) (old new : List ℕ) : Type 0 where
   pub long : length new ≡ length old

@@ -1,13 +1,13 @@
 // One equation on the bytes of a stripe: its cells are listed, and a leaf of crate xor goes over n bytes of each, from byte `at` on.
 // What several equations share (of EVENODD S) is summed before them, once a window, and lent to each as `shared`.
-ghost use Rattle.std.specs.Prelude.{◌≡◌, true, false, ℕ, ◌+◌, ◌≤◌, ◌<◌, length, get_or};
+ghost use Rattle.std.specs.Prelude.{◌≡◌, ◌≢◌, true, false, ℕ, ◌+◌, ◌≤◌, ◌<◌, length, get_or};
 ghost use Rattle.xor.specs.Xor.{◌⊕◌};
-ghost use Rattle.xor.specs.Runs.{Summed};
+ghost use Rattle.xor.specs.Runs.{Put, Summed};
 ghost use Rattle.bits.specs.Bit.{IsLowest};
-ghost use Rattle.codes.specs.Shape.{equations};
+ghost use Rattle.codes.specs.Shape.{equations, stripe_length, WellFormed};
 ghost use Rattle.codes.specs.Encoded.{total};
 ghost use Rattle.codes.specs.Lines.{shares, takes_shared, own_cell, sum_where, own_total};
-ghost use Rattle.equation.specs.Window.{bytes_at, Window, Shares, ParityPut, ParitySet, ParityZero, fails_in};
+ghost use Rattle.equation.specs.Window.{bytes_at, Window, Shares, SharedByte, ParityPut, ParitySet, ParityZero, fails_in};
 
 use codes::Shape;
 
@@ -20,6 +20,19 @@ pub fn put_shared(shape: Shape, stripe: &[u8], at: usize, n: usize, shared: &mut
     let mut places = [0usize; codes::PLACES];
     let count = codes::shared_cells(shape, &mut places);
     xor::add_shared(shared, 0, stripe, &places[..count], at, n);
+}
+
+// The XOR of the cells that several equations share, in byte t, where there are such.
+pub fn shared_byte(shape: Shape, stripe: &[u8], t: usize) -> u8
+    requires { WellFormed shape × (length stripe.now ≡ stripe_length shape) × (t < shape.cell) }
+    ensures { SharedByte shape stripe.now t result }
+{
+    if !codes::shares(shape) {
+        return 0;
+    }
+    let mut places = [0usize; codes::PLACES];
+    let count = codes::shared_cells(shape, &mut places);
+    xor::sum_byte(stripe, &places[..count], t)
 }
 
 // XORs n bytes of what is shared into those from `to` on. Answers whether they are all zero now.
@@ -161,4 +174,64 @@ pub fn put_total(
     }
     let all = add_shared(into, to, shared, n);
     all
+}
+
+// The XOR of the cells that equation q has by itself, in byte t.
+fn own_byte(shape: Shape, stripe: &[u8], q: usize, t: usize) -> u8
+    requires { WellFormed shape × (length stripe.now ≡ stripe_length shape) × (q < equations shape) × (t < shape.cell) }
+    ensures { result ≡ own_total shape q (bytes_at shape stripe.now t) }
+{
+    let mut places = [0usize; codes::PLACES];
+    let count = codes::cells_of(shape, q, &mut places);
+    xor::sum_byte(stripe, &places[..count], t)
+}
+
+// The total of equation q in byte t.
+pub fn total_byte(shape: Shape, stripe: &[u8], q: usize, t: usize, shared: u8) -> u8
+    requires { WellFormed shape × (length stripe.now ≡ stripe_length shape) × (q < equations shape) × (t < shape.cell)
+        × SharedByte shape stripe.now t shared }
+    ensures { result ≡ total shape q (bytes_at shape stripe.now t) }
+{
+    let own = own_byte(shape, stripe, q, t);
+    if codes::takes_shared(shape, q) {
+        return own ^ shared;
+    }
+    own
+}
+
+// XORs n bytes of the cells that equation q has by itself into the first n of `sum`.
+fn add_own(shape: Shape, stripe: &[u8], q: usize, at: usize, n: usize, sum: &mut [u8])
+    requires { Window shape stripe.now at n × (q < equations shape) × (n ≤ length sum.old) }
+    ensures { Put sum.old 0 n
+        (λ i. get_or sum.old (0 + i) 0 ⊕ own_total shape q (bytes_at shape stripe.now (at + i))) sum.new }
+{
+    let mut places = [0usize; codes::PLACES];
+    let count = codes::cells_of(shape, q, &mut places);
+    xor::add_shared(sum, 0, stripe, &places[..count], at, n);
+}
+
+// The first of n bytes in which equation q, which what is shared is a part of and which fails in one of them, does.
+fn failing_with_shared(shape: Shape, stripe: &[u8], q: usize, at: usize, n: usize) -> usize
+    requires { Window shape stripe.now at n × (q < equations shape) × (fails_in shape stripe.now q at n ≡ true)
+        × (takes_shared shape q ≡ true) }
+    ensures { (result < n) × (total shape q (bytes_at shape stripe.now (at + result)) ≢ 0) }
+{
+    let mut sum = [0u8; codes::MOST_CELL];
+    put_shared(shape, stripe, at, n, &mut sum);
+    add_own(shape, stripe, q, at, n, &mut sum);
+    let places = [0usize; 1];
+    xor::nonzero_at(&sum, &places[..1], 0, n)
+}
+
+// The first of n bytes in which equation q, which fails in one of them, does.
+pub fn failing_byte(shape: Shape, stripe: &[u8], q: usize, at: usize, n: usize) -> usize
+    requires { Window shape stripe.now at n × (q < equations shape) × (fails_in shape stripe.now q at n ≡ true) }
+    ensures { (result < n) × (total shape q (bytes_at shape stripe.now (at + result)) ≢ 0) }
+{
+    if codes::takes_shared(shape, q) {
+        return failing_with_shared(shape, stripe, q, at, n);
+    }
+    let mut places = [0usize; codes::PLACES];
+    let count = codes::cells_of(shape, q, &mut places);
+    xor::nonzero_at(stripe, &places[..count], at, n)
 }

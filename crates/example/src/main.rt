@@ -112,7 +112,7 @@ fn main() {
     }
     rebuild_column(shape, &stripe, 1);
     stripe[0] = 0xEE;
-    match bad::bad_column(shape, &stripe, 0) {
+    match bad::bad_column(shape, &stripe) {
         BadColumn::Clean => tell(b"clean", 0),
         BadColumn::Column(column) => tell(b"bad column", column),
         BadColumn::Unexplained => tell(b"unexplained", 0),

@@ -11,11 +11,11 @@ use lib.Dec.{eqb, leb, ltb}
 use lib.ListN.{length, get_or, take}
 use borrow.Author.Tests.{eq-eqb, ne_eqb, eqb-true, lt-ltb, le-ltb, le-leb, lt-leb}
 use Rattle.xor.specs.Xor.{◌⊕◌, xors}
-use Rattle.xor.specs.Runs.{sum_at, added_to, Inside, Put, Says}
+use Rattle.xor.specs.Runs.{sum_at, added_to, Inside, Put, Says, NonzeroAt}
 use Rattle.xor.proofs.Cases.{by_test, by_equal, by_less, clash, not_passed, same_test, and_left, and_right, and_both, either, or_right}
 use Rattle.xor.proofs.Algebra.{⊕_zero, ⊕_assoc}
 use Rattle.xor.proofs.Sums.{nothing, xors_none, xors_more, xors_same, xors_zero}
-use Rattle.xor.proofs.Runs.{first_inside, first_sum, put_same, says_same, says_zero}
+use Rattle.xor.proofs.Runs.{first_inside, first_sum, put_same, says_same, says_zero, nonzero_says}
 use Rattle.bits.specs.Bit.{bit, Members, Union}
 use Rattle.bits.proofs.Bits.{bit_and_lem, bit_or_lem, bit_zero, bit_power}
 use Rattle.codes.specs.declared.Shape.{Shape}
@@ -133,8 +133,10 @@ module _ (lanes : List ℕ) (set count : ℕ) (places : List ℕ) (h : Members s
   unfolding lane_sum
   lane_sum_lem i = ap (sum_at lanes (take count places)) (zero-add i) ∙ first_sum places count (omega (arith, h.few, h.long)) lanes i ∙ h.sum (λ p. get_or lanes (p + i) 0)
 
-  pub lanes_say : (n : ℕ) (r : Bool) → Says ((i : ℕ) → i < n → sum_at lanes (take count places) (0 + i) ≡ 0) r → Says ((i : ℕ) → i < n → lane_sum lanes set i ≡ 0) r
-  lanes_say n r = says_zero n (λ i. sum_at lanes (take count places) (0 + i)) (λ i. lane_sum lanes set i) r (λ i l. lane_sum_lem i)
+  pub lanes_say : (n r : ℕ) → NonzeroAt (λ i. sum_at lanes (take count places) (0 + i)) n r → Says ((i : ℕ) → i < n → lane_sum lanes set i ≡ 0) (eqb r n)
+  lanes_say n r h =
+      says_zero n (λ i. sum_at lanes (take count places) (0 + i)) (λ i. lane_sum lanes set i) (eqb r n) (λ i l. lane_sum_lem i)
+      (nonzero_says (λ i. sum_at lanes (take count places) (0 + i)) n r h)
 
   pub lanes_added : (d d' : List ℕ) (to n : ℕ) → Put d to n (added_to d to lanes (take count places) 0) d' → Put d to n (λ i. get_or d (to + i) 0 ⊕ lane_sum lanes set i) d'
   unfolding added_to
@@ -167,47 +169,32 @@ module _ (s : Shape) (w : WellFormed s) (stripe : List ℕ) (set at n : ℕ) (la
       ∙ xors_cut 64 (equations s) (λ r. cond (bit r m) (total s r (bytes_at s stripe (at + i))) 0) (omega (arith, small_equations s w))
       (λ r lo hi. ap (λ (b : Bool). cond b (total s r (bytes_at s stripe (at + i))) 0) (not_passed (λ p. let low = below r p in absurd (omega arith))))
 
-  module _ (failing : ℕ) (within : (r : ℕ) → bit r failing ≡ true → bit r set ≡ true) where
-    -- of a set those that don't fail may be left out: their totals are zero
-    failing_sum : (m : ℕ) → ((r : ℕ) → bit r m ≡ true → r < equations s) → ((r : ℕ) → bit r m ≡ true → bit r failing ≡ fails_in s stripe r at n) → (i : ℕ) → i < n
-        → lane_sum lanes (bit_and m failing) i ≡ summed s m (bytes_at s stripe (at + i))
-    unfolding summed
-    failing_sum m below tells i l =
-        totals_sum (bit_and m failing) (λ r p. within r (and_right (bit r m) (bit r failing) (both r p))) (λ r p. below r (and_left (bit r m) (bit r failing) (both r p))) i l
-        ∙ xors_same (equations s) (λ r. cond (bit r (bit_and m failing)) (of r) 0) (λ r. cond (bit r m) (of r) 0)
-        (λ r lr. ap (λ (b : Bool). cond b (of r) 0) (bit_and_lem r m failing) ∙ by_test (bit r m) (λ p. there r p) (λ p. rw p refl))
+  module _ (failing : ℕ) (exact : Failing s stripe set at n failing) where
+    -- of a set in it those that don't fail may be left out
+    failing_sum : (m : ℕ) → ((r : ℕ) → bit r m ≡ true → bit r set ≡ true) → (i : ℕ) → i < n → lane_sum lanes (bit_and m failing) i ≡ lane_sum lanes m i
+    unfolding lane_sum
+    failing_sum m within i l =
+        xors_same 64 (λ r. cond (bit r (bit_and m failing)) (get_or lanes (r * 512 + i) 0) 0) (λ r. cond (bit r m) (get_or lanes (r * 512 + i) 0) 0)
+        (λ r lr. ap (λ (b : Bool). cond b (get_or lanes (r * 512 + i) 0) 0) (bit_and_lem r m failing) ∙ by_test (bit r m) (λ p. there r p) (λ p. rw p refl))
       where
-        of : ℕ → ℕ
-        of r = total s r (bytes_at s stripe (at + i))
-
-        both : (r : ℕ) → bit r (bit_and m failing) ≡ true → (bit r m && bit r failing) ≡ true
-        both r p = sym (bit_and_lem r m failing) ∙ p
-
-        there : (r : ℕ) → bit r m ≡ true → cond (bit r m && bit r failing) (of r) 0 ≡ cond (bit r m) (of r) 0
+        there : (r : ℕ) → bit r m ≡ true → cond (bit r m && bit r failing) (get_or lanes (r * 512 + i) 0) 0 ≡ cond (bit r m) (get_or lanes (r * 512 + i) 0) 0
         there r p =
-            by_test (fails_in s stripe r at n) (λ fail. ap (λ (b : Bool). cond (bit r m && b) (of r) 0) (tells r p ∙ fail) ∙ rw p refl)
-            (λ hold. let none : of r ≡ 0 = not_failing s stripe r at n hold i l in nothing (bit r m && bit r failing) (of r) none ∙ sym (nothing (bit r m) (of r) none))
+            by_test (fails_in s stripe r at n) (λ fail. ap (λ (b : Bool). cond (bit r m && b) (get_or lanes (r * 512 + i) 0) 0) (exact r ∙ and_both (within r p) fail) ∙ rw p refl)
+            (λ hold. let none : get_or lanes (r * 512 + i) 0 ≡ 0 = h.holds r (within r p) i l ∙ not_failing s stripe r at n hold i l in
+            nothing (bit r m && bit r failing) (get_or lanes (r * 512 + i) 0) none ∙ sym (nothing (bit r m) (get_or lanes (r * 512 + i) 0) none))
 
     -- the lanes of sets tell whether the stripe passes the checks
-    pub checks_say : (v : ℕ) (checks : List ℕ) (r : Bool) → Sets s v checks → ((j : ℕ) → j < v → (q : ℕ) → bit q (get_or checks j 0) ≡ true → bit q failing ≡ fails_in s stripe q at n)
+    pub checks_say : (v : ℕ) (checks : List ℕ) (r : Bool) → Sets s v checks → Union v checks set
         → Says ((j : ℕ) → j < v → (i : ℕ) → i < n → lane_sum lanes (bit_and (get_or checks j 0) failing) i ≡ 0) r → Says ((i : ℕ) → i < n → Passes s stripe v checks (at + i)) r
-    checks_say v checks r sets tells =
+    checks_say v checks r sets union =
         says_same ((j : ℕ) → j < v → (i : ℕ) → i < n → lane_sum lanes (bit_and (get_or checks j 0) failing) i ≡ 0) ((i : ℕ) → i < n → Passes s stripe v checks (at + i)) r
         (λ z i l. record { zero = λ j lj. sym (check j lj i l) ∙ z j lj i l }) (λ z j lj i l. check j lj i l ∙ (z i l).zero j lj)
       where
         check : (j : ℕ) → j < v → (i : ℕ) → i < n → lane_sum lanes (bit_and (get_or checks j 0) failing) i ≡ summed s (get_or checks j 0) (bytes_at s stripe (at + i))
-        check j lj i l = failing_sum (get_or checks j 0) (sets.below j lj) (tells j lj) i l
+        check j lj i l = failing_sum (get_or checks j 0) (union.within j lj) i l ∙ totals_sum (get_or checks j 0) (union.within j lj) (sets.below j lj) i l
 
   pub totals_of : (u : ℕ) (sets : List ℕ) → Sets s u sets → Union u sets set → LanesOf s stripe u sets at n lanes
   totals_of u sets h' union = record { sum = λ k l i li. totals_sum (get_or sets k 0) (union.within k l) (h'.below k l) i li }
-
--- the failing equations of a set are in it, and it tells of its members whether they fail
-module _ (s : Shape) (stripe : List ℕ) (set at n failing : ℕ) (exact : Failing s stripe set at n failing) where
-  pub failing_within : (r : ℕ) → bit r failing ≡ true → bit r set ≡ true
-  failing_within r p = and_left (bit r set) (fails_in s stripe r at n) (sym (exact r) ∙ p)
-
-  pub failing_tells : (r : ℕ) → bit r set ≡ true → bit r failing ≡ fails_in s stripe r at n
-  failing_tells r p = exact r ∙ ap (λ (b : Bool). b && fails_in s stripe r at n) p
 
 -- ---- what holds of all numbers below v, one after the other
 

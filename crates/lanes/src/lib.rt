@@ -1,5 +1,5 @@
 // Sums of equations in lanes: the totals of up to 512 bytes of each equation at a time, in lanes on the stack. By them survivors are
-// checked and lost cells are mended, and bad column tries its columns.
+// checked and lost cells are mended.
 ghost use Rattle.std.specs.Prelude.{◌≡◌, true, ℕ, ◌+◌, ◌*◌, ◌≤◌, ◌<◌, length, get_or};
 ghost use Rattle.std.specs.Int.Bits.{bit_and};
 ghost use Rattle.xor.specs.Runs.{Says};
@@ -11,8 +11,8 @@ ghost use Rattle.lanes.specs.Lanes.{lane, room, lane_sum, InLane, Totals, Failin
 
 use codes::Shape;
 
-// Bytes in a lane of these: at least as many as bad column has in one of its own.
-pub const LANE: usize = 512;
+// Bytes in a lane.
+const LANE: usize = 512;
 
 // Bytes in the lanes of all equations that there may be.
 pub const LANES: usize = 32768;
@@ -47,14 +47,7 @@ fn put_totals_with(
 }
 
 // Sets n bytes of the lane of each equation in a set to its total, from byte `at` of each cell on. Answers which of them fail there.
-pub fn put_totals(
-    shape: Shape,
-    stripe: &[u8],
-    set: u64,
-    at: usize,
-    n: usize,
-    lanes: &mut [u8],
-) -> u64
+fn put_totals(shape: Shape, stripe: &[u8], set: u64, at: usize, n: usize, lanes: &mut [u8]) -> u64
     requires { InLane shape stripe.now at n lanes.old × ((r : ℕ) → bit r set ≡ true → r < equations shape) }
     ensures { Totals shape stripe.now set at n lanes.new × Failing shape stripe.now set at n result }
 {
@@ -83,7 +76,7 @@ fn lanes_agree(lanes: &[u8], checks: &[u64; bits::ROOM], v: usize, failing: u64,
             continue;
         }
         let count = bits::list_members(set, LANE, &mut places);
-        if !xor::runs_cancel(lanes, &places[..count], 0, n) {
+        if xor::nonzero_at(lanes, &places[..count], 0, n) != n {
             return false;
         }
     }
@@ -118,7 +111,7 @@ fn lane_agrees(
 }
 
 // Whether the survivors pass the checks in n bytes from `at` on, lane by lane.
-fn survivors_agree(
+pub fn survivors_agree(
     shape: Shape,
     stripe: &[u8],
     checks: &[u64; bits::ROOM],

@@ -58,7 +58,7 @@ other_length bytes right = fault 5 (not (eqb bytes right))
 unfoldable pub stripe_faults : Shape → ℕ → List Fault
 stripe_faults s bytes = shape_faults s ++ other_length bytes (stripe_length s) ∷ []
 
--- a row, a column, a cell number or a byte of a cell that is not below its bound
+-- a row, a column or a cell number that is not below its bound
 abbrev pub outside : ℕ → ℕ → Fault
 outside n bound = fault 6 (leb bound n)
 

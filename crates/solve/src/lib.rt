@@ -74,7 +74,7 @@ fn spread(masks: &mut [u64; bits::ROOM], others: u64, q: usize)
 }
 
 // At first every equation is the sum of itself alone.
-pub fn own_sources(sources: &mut [u64; bits::ROOM], equations: usize)
+fn own_sources(sources: &mut [u64; bits::ROOM], equations: usize)
     requires { (length sources.old ≡ 64) × (equations ≤ 64) }
     ensures { Own equations sources.new }
 {

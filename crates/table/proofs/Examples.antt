@@ -5,9 +5,9 @@ use mathlib.Core.List.{List, [], ◌∷◌}
 use mathlib.Core.Bool.{Bool, true, false, not, ◌&&◌, xor}
 use Prim.Native.Nat.{ℕ, ◌^◌, ◌≤◌, ◌<◌}
 use native.Mathlib.Omega.{arith}
-use lib.Dec.{eqb, leb, ltb}
+use lib.Dec.{eqb, ltb}
 use lib.ListN.{length, get_or, get_or-eq_default}
-use borrow.Author.Tests.{eqb-true, eq-eqb, leb-true, ltb-true, not-false, not-true}
+use borrow.Author.Tests.{eqb-true, eq-eqb, ltb-true, not-false, not-true}
 use Rattle.xor.specs.Xor.{◌⊕◌, xors}
 use Rattle.xor.specs.Sets.{any, count}
 use Rattle.xor.proofs.Cases.{by_less, clash, and_left, and_right, not_xor}
@@ -38,8 +38,7 @@ use Rattle.codes.specs.Agree.{in_columns, callers_columns}
 use Rattle.decide.specs.Survivors.{named}
 use Rattle.bad.specs.declared.BadColumn.{BadColumn}
 use Rattle.bad.specs.declared.BadColumn.TheVariants.{Clean, Column, Unexplained, Refused}
-use Rattle.bad.specs.Bad.{lane_bytes, bad_number, lane_faults, Finds}
-use Rattle.bad.proofs.Whole.{WholeReplaceable, WholeFinding, finds_whole}
+use Rattle.bad.specs.Bad.{Replaceable, bad_number, Finding}
 use Rattle.decide.proofs.Determined.{columns_determined}
 use Rattle.rebuild.specs.Rebuild.{Decides, undetermined, restored, RebuildsCells}
 use Rattle.rebuild.proofs.Computed.{outcome, stops, stops_undetermined, passes_determined, fits, fits_restores, unfit_none}
@@ -52,7 +51,7 @@ use Rattle.balance.specs.Refusals.{balance_faults}
 use Rattle.plan.specs.Refusals.{plan_faults}
 use Rattle.spare.specs.Refusals.{spare_faults, run_faults}
 use Rattle.show.specs.Refusals.{show_faults}
-use Rattle.table.specs.Examples.{Claim, encoded, broken, written, rebuild_refused, rebuilt, found, planned, run_refused, balanced, balance_refused, read_from, Example, empty_spare, table, lanes, shelves, evenodds, balances, Claims, Holds, AllHold}
+use Rattle.table.specs.Examples.{Claim, encoded, broken, written, rebuild_refused, rebuilt, found, planned, run_refused, balanced, balance_refused, read_from, Example, empty_spare, table, shelves, evenodds, balances, Claims, Holds, AllHold}
 
 -- the difference put alone and encoded, byte t of it in cell k
 differing : Shape → ℕ → List ℕ → List ℕ → ℕ → ℕ → ℕ
@@ -73,23 +72,12 @@ replaces s stripe c = fits s (callers_columns s c c) stripe (outcome s (callers_
 wide : List ℕ → Bool
 wide stripe = any (length stripe) (λ i. not (ltb (get_or stripe i 0) 256))
 
--- whether bad column's finding is so of the whole stripe
+-- whether bad column's finding is so
 finds : Shape → List ℕ → BadColumn → Bool
 finds s stripe Clean = not (any (equations s) (fails s stripe))
 finds s stripe (Column c) = any (equations s) (fails s stripe) && (not (wide stripe) && (ltb c (disks s) && replaces s stripe c))
 finds s stripe Unexplained = any (equations s) (fails s stripe) && not (any (disks s) (replaces s stripe))
 finds s stripe (Refused number) = false
-
--- whether bad column's finding is so of the only lane
-in_only : Shape → List ℕ → ℕ → BadColumn → Bool
-in_only s stripe n answer = eqb n 0 && (leb s.cell lane_bytes && finds s stripe answer)
-
--- whether bad column's answer is so of a lane
-found_in : Shape → List ℕ → ℕ → BadColumn → Bool
-found_in s stripe n Clean = in_only s stripe n Clean
-found_in s stripe n (Column c) = in_only s stripe n (Column c)
-found_in s stripe n Unexplained = in_only s stripe n Unexplained
-found_in s stripe n (Refused number) = not (eqb number 0) && eqb (refusal (lane_faults s (length stripe) n)) number
 
 -- whether a rebuild of the cells that a list names is not refused for its numbers
 right_cells : Shape → List ℕ → List ℕ → Bool
@@ -115,7 +103,7 @@ claimed s stripe (rebuild_refused lost number) = right_cells s stripe lost && (e
 claimed s stripe (rebuilt lost new) =
     right_cells s stripe lost
     && (not (stops (outcome s (named s lost))) && (eqb (length new) (stripe_length s) && (not (wide new) && (not (any (equations s) (fails s new)) && not (unlike s (named s lost) stripe new)))))
-claimed s stripe (found n finding) = found_in s stripe n finding
+claimed s stripe (found finding) = finds s stripe finding
 claimed s stripe (planned k taken reads) = plans_by s k (by_rule s) (plan_faults s k) taken reads
 claimed s stripe (balanced k taken reads) = plans_by s k (by_balance s) (balance_faults s k) taken reads
 claimed s stripe (balance_refused k number) = not (eqb number 0) && eqb (refusal (balance_faults s k)) number
@@ -193,16 +181,16 @@ not_wide stripe h i =
     (λ l. subst (λ (x : ℕ). x < 256) (sym (get_or-eq_default stripe 0 l)) (omega arith))
 
 module _ (s : Shape) (w : WellFormed s) (stripe : List ℕ) where
-  is_replaceable : wide stripe ≡ false → (c : ℕ) → c < disks s → replaces s stripe c ≡ true → WholeReplaceable s stripe c
+  is_replaceable : wide stripe ≡ false → (c : ℕ) → c < disks s → replaces s stripe c ≡ true → Replaceable s stripe c
   unfolding replaces
   is_replaceable bytes c l h = let new = fits_restores s w (callers_columns s c c) (columns_there s w c c) stripe (not_wide stripe bytes) h in record { inside = l; replaced = new.0; restores = new.1 }
 
-  none_replaceable : any (disks s) (replaces s stripe) ≡ false → (c : ℕ) → WholeReplaceable s stripe c → ⊥
+  none_replaceable : any (disks s) (replaces s stripe) ≡ false → (c : ℕ) → Replaceable s stripe c → ⊥
   unfolding replaces
   none_replaceable h c r =
       unfit_none s w (callers_columns s c c) (columns_there s w c c) stripe (columns_determined s w (column_of s c) (column_of s c) (column_there s w c r.inside) (column_there s w c r.inside)) (any_none (disks s) (replaces s stripe) h c r.inside) r.replaced r.restores
 
-  is_found : (answer : BadColumn) → finds s stripe answer ≡ true → WholeFinding s stripe answer
+  is_found : (answer : BadColumn) → finds s stripe answer ≡ true → Finding s stripe answer
   unfolding finds
   is_found Clean h = is_clean s stripe h
   is_found (Column c) h =
@@ -218,25 +206,12 @@ module _ (s : Shape) (w : WellFormed s) (stripe : List ℕ) where
   )
   is_found (Refused number) h = clash h refl
 
-module _ (s : Shape) (stripe : List ℕ) (right : refusal (stripe_faults s (length stripe)) ≡ 0) where
-  -- a finding of the only lane is one of the whole stripe
-  found_whole : (n : ℕ) (answer : BadColumn) → bad_number answer ≡ 0 → in_only s stripe n answer ≡ true → Finds s stripe n answer
-  unfolding in_only
-  found_whole n answer none h =
-      let later = and_right (eqb n 0) (leb s.cell lane_bytes && finds s stripe answer) h in
-      subst (λ (k : ℕ). Finds s stripe k answer) (sym (eqb-true n 0 (and_left (eqb n 0) (leb s.cell lane_bytes && finds s stripe answer) h)))
-      ((finds_whole s (leb-true s.cell lane_bytes (and_left (leb s.cell lane_bytes) (finds s stripe answer) later)) stripe answer).1
-      (record { number = none ∙ sym right; finding = λ z. is_found s (accepted s (length stripe) right).0 stripe answer (and_right (leb s.cell lane_bytes) (finds s stripe answer) later) }))
-
-  found_so : (n : ℕ) (answer : BadColumn) → found_in s stripe n answer ≡ true → Finds s stripe n answer
-  unfolding found_in
-  found_so n Clean h = found_whole n Clean refl h
-  found_so n (Column c) h = found_whole n (Column c) refl h
-  found_so n Unexplained h = found_whole n Unexplained refl h
-  found_so n (Refused number) h = record {
-    number = sym (eqb-true (refusal (lane_faults s (length stripe) n)) number (and_right (not (eqb number 0)) (eqb (refusal (lane_faults s (length stripe) n)) number) h));
-    finding = λ z. clash (eq-eqb number 0 z) (not-true (eqb number 0) (and_left (not (eqb number 0)) (eqb (refusal (lane_faults s (length stripe) n)) number) h));
-  }
+found_number : (s : Shape) (stripe : List ℕ) (answer : BadColumn) → finds s stripe answer ≡ true → bad_number answer ≡ 0
+unfolding finds
+found_number s stripe Clean h = refl
+found_number s stripe (Column c) h = refl
+found_number s stripe Unexplained h = refl
+found_number s stripe (Refused number) h = clash h refl
 
 module _ (s : Shape) (stripe : List ℕ) (w : WellFormed s) (lost : List ℕ) where
   -- the numbers are right, so that only demand 3 decides
@@ -319,7 +294,7 @@ claimed_so s stripe (broken n) right h = (sym right, sym (eqb-true (broken_equat
 claimed_so s stripe (written row column bytes new n) right h = (sym (not_refused s stripe row column bytes new n h), (is_written s stripe row column bytes new n h, is_depending s stripe row column bytes new n h))
 claimed_so s stripe (rebuild_refused lost number) right h = is_refused s stripe (accepted s (length stripe) right).0 lost number h
 claimed_so s stripe (rebuilt lost new) right h = is_rebuilt s stripe (accepted s (length stripe) right).0 lost new h
-claimed_so s stripe (found n answer) right h = found_so s stripe right n answer h
+claimed_so s stripe (found answer) right h = record { number = found_number s stripe answer h ∙ sym right; finding = λ z. is_found s (accepted s (length stripe) right).0 stripe answer h }
 claimed_so s stripe (planned k taken reads) right h = is_planned s k (by_rule s) (plan_faults s k) taken reads h
 claimed_so s stripe (balanced k taken reads) right h = is_planned s k (by_balance s) (balance_faults s k) taken reads h
 claimed_so s stripe (balance_refused k number) right h =
@@ -355,25 +330,22 @@ all_hold (e ∷ rows') h =
     (row_holds e (and_left first (passes rows') h), all_hold rows' (and_right first (passes rows') h))
 
 -- the test of every row, done once
-all_pass : (passes table ≡ true) × (passes lanes ≡ true) × (passes shelves ≡ true) × (passes evenodds ≡ true) × (passes balances ≡ true)
-unfolding table lanes shelves evenodds balances passes claimed plans_by right_cells unlike unwritten differing depending settled is_parity write_faults refusal first_of order applies stripe_faults shape_faults cells_faults listed rows columns equations cells cell_number stripe_length column_of lies_at cell_of callers_cell place equation parity_cell sums_cell byte_at sum_over fails broken_equations any count xors ◌⊕◌ named run lowest holds xor found_in in_only lane_faults finds replaces wide in_columns syndrome bit diagonal chosen reads_cell column_reads cells_read by_rule is_accepted plan_faults offered shifted fitting shift by_balance balance_faults spare_faults run_faults missing disks existing is_there cell_there
-all_pass = (refl, refl, refl, refl, refl)
+all_pass : (passes table ≡ true) × (passes shelves ≡ true) × (passes evenodds ≡ true) × (passes balances ≡ true)
+unfolding table shelves evenodds balances passes claimed plans_by right_cells unlike unwritten differing depending settled is_parity write_faults refusal first_of order applies stripe_faults shape_faults cells_faults listed rows columns equations cells cell_number stripe_length column_of lies_at cell_of callers_cell place equation parity_cell sums_cell byte_at sum_over fails broken_equations any count xors ◌⊕◌ named run lowest holds xor finds replaces wide in_columns syndrome bit diagonal chosen reads_cell column_reads cells_read by_rule is_accepted plan_faults offered shifted fitting shift by_balance balance_faults spare_faults run_faults missing disks existing is_there cell_there
+all_pass = (refl, refl, refl, refl)
 
--- the theorem over document 01's table, and those over the tables of lanes, of shelves with fewer disks, of EVENODD and of balanced plans
+-- the theorem over document 01's table, and those over the tables of shelves with fewer disks, of EVENODD and of balanced plans
 pub examples_hold : AllHold table
 examples_hold = all_hold table all_pass.0
 
-pub lanes_hold : AllHold lanes
-lanes_hold = all_hold lanes all_pass.1
-
 pub shelves_hold : AllHold shelves
-shelves_hold = all_hold shelves all_pass.2
+shelves_hold = all_hold shelves all_pass.1
 
 pub evenodds_hold : AllHold evenodds
-evenodds_hold = all_hold evenodds all_pass.3
+evenodds_hold = all_hold evenodds all_pass.2
 
 pub balances_hold : AllHold balances
-balances_hold = all_hold balances all_pass.4
+balances_hold = all_hold balances all_pass.3
 
 -- plan, balanced plan, run and show of another code than RDP are refused for the code, and where a number of data columns is given for the number, whatever else
 -- they are told

@@ -12,7 +12,7 @@ use Rattle.stripe.specs.Broken.{Counts}
 use Rattle.stripe.specs.Write.{Writes}
 use Rattle.rebuild.specs.Rebuild.{RebuildsCells}
 use Rattle.bad.specs.declared.BadColumn.{BadColumn}
-use Rattle.bad.specs.declared.BadColumn.TheVariants.{Column, Unexplained, Refused as BadRefused}
+use Rattle.bad.specs.declared.BadColumn.TheVariants.{Column, Unexplained}
 use Rattle.bad.specs.Bad.{Finds}
 use Rattle.plan.specs.declared.PlanAnswer.TheVariants.{Plan, Refused as PlanRefused}
 use Rattle.plan.specs.Plan.{column_reads}
@@ -31,8 +31,8 @@ pub data Claim : Type 0 where
   -- that a rebuild of the cells that a list names is refused by a number; that it is not, and leaves another stripe
   rebuild_refused : (lost : List ℕ) (number : ℕ) → Claim
   rebuilt : (lost new : List ℕ) → Claim
-  -- that bad column answers so of a lane
-  found : (lane : ℕ) (finding : BadColumn) → Claim
+  -- that bad column answers so
+  found : (finding : BadColumn) → Claim
   -- that the plan for column k takes these rows by diagonal, with so many reads; that a run for column k by a plan is refused so
   planned : (k rows reads : ℕ) → Claim
   run_refused : (k plan number : ℕ) → Claim
@@ -90,17 +90,10 @@ table =
     ∷ record { number = 8; shape = five; claim = run_refused 1 16 9; stripe = zeros }
     ∷ record { number = 8; shape = five; claim = planned 5 15 16; stripe = zeros }
     ∷ record { number = 8; shape = five; claim = run_refused 5 7 9; stripe = zeros }
-    ∷ record { number = 9; shape = small 1; claim = found 0 (Column 3); stripe = 0x00 ∷ 0x04 ∷ 0x03 ∷ 0x08 ∷ 0x03 ∷ 0x0C ∷ 0x0D ∷ 0x06 ∷ [] }
-    ∷ record { number = 10; shape = small 1; claim = found 0 Unexplained; stripe = 0x00 ∷ 0x04 ∷ 0x02 ∷ 0x0A ∷ 0x03 ∷ 0x0C ∷ 0x0D ∷ 0x06 ∷ [] }
+    ∷ record { number = 9; shape = small 1; claim = found (Column 3); stripe = 0x00 ∷ 0x04 ∷ 0x03 ∷ 0x08 ∷ 0x03 ∷ 0x0C ∷ 0x0D ∷ 0x06 ∷ [] }
+    ∷ record { number = 10; shape = small 1; claim = found Unexplained; stripe = 0x00 ∷ 0x04 ∷ 0x02 ∷ 0x0A ∷ 0x03 ∷ 0x0C ∷ 0x0D ∷ 0x06 ∷ [] }
     ∷ record { number = 10; shape = small 1; claim = broken 3; stripe = 0x00 ∷ 0x04 ∷ 0x02 ∷ 0x0A ∷ 0x03 ∷ 0x0C ∷ 0x0D ∷ 0x06 ∷ [] }
     ∷ []
-
--- P9's stripe asked for lanes that its cells don't reach, for document 02, request 06: the first, one whose bytes begin at 2^64, the last that can be told
-unfoldable pub lanes : List Example
-lanes = unreached 1 ∷ unreached 36028797018963968 ∷ unreached 18446744073709551615 ∷ []
-  where
-    unreached : ℕ → Example
-    unreached lane = record { number = 6; shape = small 1; claim = found lane (BadRefused 6); stripe = 0x00 ∷ 0x04 ∷ 0x03 ∷ 0x08 ∷ 0x03 ∷ 0x0C ∷ 0x0D ∷ 0x06 ∷ [] }
 
 -- RDP with p = 5, two data columns and cells of one byte: four disks
 abbrev pub shelf : Shape
@@ -114,7 +107,7 @@ on_shelf byte = byte ∷ 0x02 ∷ 0x04 ∷ 0x08 ∷ 0x10 ∷ 0x20 ∷ 0x40 ∷ 0
 unfoldable pub shelves : List Example
 shelves =
     record { number = 1; shape = shelf; claim = encoded; stripe = on_shelf 0x01 }
-    ∷ record { number = 1; shape = shelf; claim = found 0 (Column 0); stripe = on_shelf 0x00 }
+    ∷ record { number = 1; shape = shelf; claim = found (Column 0); stripe = on_shelf 0x00 }
     ∷ record { number = 1; shape = shelf; claim = rebuilt (0 ∷ 1 ∷ 2 ∷ 3 ∷ 12 ∷ 13 ∷ 14 ∷ 15 ∷ []) (on_shelf 0x01); stripe = on_shelf 0xEE }
     ∷ record { number = 1; shape = shelf; claim = planned 0 3 8; stripe = on_shelf 0x01 }
     ∷ record { number = 1; shape = shelf; claim = planned 1 3 7; stripe = on_shelf 0x01 }
@@ -142,7 +135,7 @@ evenodds =
     ∷ record { number = 3; shape = small 4; claim = written 0 1 (0x05 ∷ []) (evenodd_stripe 0x05 0x08 0x14 0x2A 0x39 0x1F) 2; stripe = evenodd_right }
     ∷ record { number = 3; shape = small 4; claim = written 1 1 (0x09 ∷ []) (evenodd_stripe 0x04 0x09 0x15 0x2B 0x38 0x1F) 3; stripe = evenodd_right }
     ∷ record { number = 3; shape = small 4; claim = broken 3; stripe = evenodd_stripe 0x04 0x09 0x15 0x2A 0x39 0x1E }
-    ∷ record { number = 3; shape = small 4; claim = found 0 (Column 1); stripe = evenodd_wrong }
+    ∷ record { number = 3; shape = small 4; claim = found (Column 1); stripe = evenodd_wrong }
     ∷ record { number = 3; shape = small 4; claim = rebuilt (2 ∷ 3 ∷ 4 ∷ 5 ∷ []) evenodd_right; stripe = evenodd_wrong }
     ∷ record { number = 3; shape = small 4; claim = rebuild_refused (2 ∷ 3 ∷ 4 ∷ 5 ∷ 0 ∷ []) 11; stripe = evenodd_wrong }
     ∷ record { number = 3; shape = small 4; claim = run_refused 0 0 3; stripe = evenodd_right }
@@ -190,7 +183,7 @@ Claims s stripe (broken n) = Counts s stripe (Count n)
 Claims s stripe (written row column bytes new n) = Writes s row column bytes stripe new (Count n)
 Claims s stripe (rebuild_refused lost number) = RebuildsCells s lost stripe number stripe
 Claims s stripe (rebuilt lost new) = RebuildsCells s lost stripe 0 new
-Claims s stripe (found lane finding) = Finds s stripe lane finding
+Claims s stripe (found finding) = Finds s stripe finding
 Claims s stripe (planned k taken reads) = Plans s k (Plan (record { rows = taken; reads = reads }))
 Claims s stripe (balanced k taken reads) = Balances s k (Plan (record { rows = taken; reads = reads }))
 Claims s stripe (balance_refused k number) = Balances s k (PlanRefused number)

@@ -12,7 +12,7 @@ use lib.Bits.{bit_xor, bit_or}
 use lib.Dec.{eqb}
 use borrow.Author.Tests.{eqb-true, eqb-false}
 use Rattle.xor.specs.Xor.{◌⊕◌, xors}
-use Rattle.xor.specs.Runs.{sum_at, changed_by, added_to, Inside, Apart, Beside, Added, Put, Says, Summed}
+use Rattle.xor.specs.Runs.{sum_at, changed_by, added_to, Inside, Apart, Beside, Added, Put, Says, Summed, NonzeroAt}
 use Rattle.xor.proofs.Cases.{by_test, by_equal, by_less, clash, and_left, and_right, and_both}
 use Rattle.xor.proofs.Algebra.{⊕_is, zero_⊕, ⊕_zero, ⊕_comm, ⊕_assoc, or_none_left, or_none_right}
 use Rattle.xor.proofs.Sums.{xors_more, xors_none, xors_same}
@@ -115,6 +115,16 @@ module _ (bytes : List ℕ) (place : ℕ) where
 pub one_first : (bytes : List ℕ) (t : ℕ) → sum_at bytes (0 ∷ []) t ≡ get_or bytes t 0
 one_first bytes t = one_sum bytes 0 t ∙ ap (λ (i : ℕ). get_or bytes i 0) (zero-add t)
 
+-- one byte alone of the XOR of the runs
+
+pub byte_more : (s places : List ℕ) (k t sum : ℕ) → sum ≡ sum_to s places k t → bit_xor sum (get_or s (get_or places k 0 + t) 0) ≡ sum_to s places (k + 1) t
+byte_more s places k t sum e =
+    sym (⊕_is sum (get_or s (get_or places k 0 + t) 0)) ∙ ap (λ (x : ℕ). x ⊕ get_or s (get_or places k 0 + t) 0) e ∙ sym (xors_more k (λ j. get_or s (get_or places j 0 + t) 0))
+
+pub byte_all : (s places : List ℕ) (k t sum : ℕ) → k ≡ length places → sum ≡ sum_to s places k t → sum ≡ sum_at s places t
+unfolding sum_at
+byte_all s places k t sum e h = h ∙ ap (λ (m : ℕ). sum_to s places m t) e
+
 -- ---- bits gathered from bytes
 
 -- r has a bit set exactly where one of the first n numbers has
@@ -181,6 +191,31 @@ module _ (f : ℕ → ℕ) where
     where
       said : (b : Bool) → (b ≡ false → ⊥) → b ≡ true
       said b h = by_test b (λ p. p) (λ p. absurd (h p))
+
+  -- ---- a number that is not zero
+
+  pub zero_next : (n : ℕ) → Zero n → f n ≡ 0 → Zero (n + 1)
+  zero_next n before here t l = by_equal t n (λ e. ap f e ∙ here) (λ e. before t (omega arith))
+
+  pub nonzero_none : (n : ℕ) → Zero n → NonzeroAt f n n
+  nonzero_none n z = record { most = omega arith; some = λ l. absurd (omega arith); none = λ l. z }
+
+  pub nonzero_here : (n r : ℕ) → r < n → f r ≢ 0 → NonzeroAt f n r
+  nonzero_here n r l h = record { most = omega arith; some = λ k. h; none = λ k. absurd (omega arith) }
+
+  -- none, or one
+  pub nonzero_says : (n r : ℕ) → NonzeroAt f n r → Says (Zero n) (eqb r n)
+  nonzero_says n r h = record {
+    yes = λ e. h.none (omega (arith, eqb-true r n e));
+    no = λ e all. by_less r n (λ l. h.some l (all r l)) (λ l. let most = h.most in eqb-false r n e (omega arith));
+  }
+
+-- equal numbers are zero in the same places
+pub nonzero_same : (n r : ℕ) (f g : ℕ → ℕ) → ((t : ℕ) → t < n → f t ≡ g t) → NonzeroAt f n r → NonzeroAt g n r
+nonzero_same n r f g e h = record { most = h.most; some = λ l z. h.some l (e r l ∙ z); none = λ l t lt. sym (e t lt) ∙ h.none l t lt }
+
+pub nonzero_on : (f : ℕ → ℕ) (at next n r : ℕ) → NonzeroAt (λ t. f (at + next + t)) n r → NonzeroAt (λ t. f (at + (next + t))) n r
+nonzero_on f at next n r = nonzero_same n r (λ t. f (at + next + t)) (λ t. f (at + (next + t))) (λ t l. ap f (add_assoc at next t))
 
 -- ---- bytes stored in a run
 
@@ -292,22 +327,21 @@ summed_next s₀ s s' to done m x g was now h b same =
     summed_over s₀ s s' to done m done (λ t. get_or s₀ (to + t) 0 ⊕ x t) g was now h b
     (λ t l. same t l ∙ ap (λ (y : ℕ). y ⊕ x (done + t)) (h.put.outer (to + (done + t)) (inr (omega arith)))) (omega arith) (omega arith)
 
--- the XOR of no runs
-pub no_runs : (s places : List ℕ) (t : ℕ) → length places ≡ 0 → sum_at s places t ≡ 0
-unfolding sum_at
-no_runs s places t none = ap (λ (k : ℕ). xors k (λ j. get_or s (get_or places j 0 + t) 0)) none ∙ xors_none (λ j. get_or s (get_or places j 0 + t) 0)
-
 -- no runs to XOR in: it is as it was
-pub summed_no_runs : (d s places : List ℕ) (to at n : ℕ) (r : Bool) → length places ≡ 0 → Says ((t : ℕ) → t < n → sum_at d (to ∷ []) (0 + t) ≡ 0) r → Summed d to n (added_to d to s places at) d r
+pub summed_no_runs : (d s places : List ℕ) (to at n r : ℕ) → length places ≡ 0 → NonzeroAt (λ t. sum_at d (to ∷ []) (0 + t)) n r → Summed d to n (added_to d to s places at) d (eqb r n)
 unfolding added_to sum_at
 summed_no_runs d s places to at n r none found = record {
   put = record {
     long = refl;
-    inner = λ t l. sym (⊕_zero (get_or d (to + t) 0)) ∙ ap (λ (y : ℕ). get_or d (to + t) 0 ⊕ y) (sym (no_runs s places (at + t) none));
+    inner = λ t l. sym (⊕_zero (get_or d (to + t) 0)) ∙ ap (λ (y : ℕ). get_or d (to + t) 0 ⊕ y) (sym (nothing (λ k. get_or s (get_or places k 0 + (at + t)) 0)));
     outer = λ i side. refl;
   };
-  zero = says_zero n (λ t. sum_at d (to ∷ []) (0 + t)) (λ t. get_or d (to + t) 0) r (λ t l. one_sum d to (0 + t) ∙ ap (λ (i : ℕ). get_or d (to + i) 0) (zero-add t)) found;
+  zero = says_zero n (λ t. sum_at d (to ∷ []) (0 + t)) (λ t. get_or d (to + t) 0) (eqb r n) (λ t l. one_sum d to (0 + t) ∙ ap (λ (i : ℕ). get_or d (to + i) 0) (zero-add t))
+      (nonzero_says (λ t. sum_at d (to ∷ []) (0 + t)) n r found);
 }
+  where
+    nothing : (f : ℕ → ℕ) → xors (length places) f ≡ 0
+    nothing f = ap (λ (k : ℕ). xors k f) none ∙ xors_none f
 
 -- a block of a sum XORed into another list
 pub summed_added : (d₀ d d' s places : List ℕ) (to at done m : ℕ) (was now : Bool)

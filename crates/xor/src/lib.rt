@@ -2,7 +2,7 @@
 // A run is summed a block at a time. Whatever stores a sum answers whether the bytes that it stored are all zero.
 ghost use Rattle.std.specs.Prelude.{◌≡◌, true, false, ℕ, ◌+◌, ◌^◌, ◌≤◌, ◌<◌, length, get_or};
 ghost use Rattle.xor.specs.Xor.{◌⊕◌};
-ghost use Rattle.xor.specs.Runs.{sum_at, changed_by, added_to, Inside, Apart, Beside, Added, Put, Says, Summed};
+ghost use Rattle.xor.specs.Runs.{sum_at, changed_by, added_to, Inside, Apart, Beside, Added, Put, Says, Summed, NonzeroAt};
 
 // The bytes of a block: that many stay in registers.
 const BLOCK: usize = 128;
@@ -217,36 +217,65 @@ pub fn sums_to_zero(s: &[u8], places: &[usize], at: usize, n: usize) -> bool
     true
 }
 
-// Whether the runs at the places cancel in n bytes from `at` on: their XOR is all zero.
-fn block_cancels(s: &[u8], places: &[usize], at: usize, n: usize) -> bool
-    requires { (n ≤ 128) × Inside (length s.now) places.now (at + n) }
-    ensures { Says ((t : ℕ) → t < n → sum_at s.now places.now (at + t) ≡ 0) result }
+// Byte t of the XOR of the runs at the places.
+pub fn sum_byte(s: &[u8], places: &[usize], t: usize) -> u8
+    requires { Inside (length s.now) places.now (t + 1) }
+    ensures { result ≡ sum_at s.now places.now t }
 {
-    let sum = sum_runs(s, places, at, n);
-    all_zero(sum, n)
+    let mut sum = 0u8;
+    let mut k = 0;
+    while k < places.len() {
+        sum = sum ^ s[places[k] + t];
+        k += 1;
+    }
+    sum
 }
 
-// Whether the runs at the places cancel in n bytes from `at` on. It stands beside sums_to_zero since a second caller of that would cost broken
-// its speed.
-pub fn runs_cancel(s: &[u8], places: &[usize], at: usize, n: usize) -> bool
-    requires { Inside (length s.now) places.now (at + n) × (at + n < 2 ^ 64) }
-    ensures { Says ((t : ℕ) → t < n → sum_at s.now places.now (at + t) ≡ 0) result }
+// One of n bytes of a block that is not zero; n where all are.
+fn nonzero_byte(block: [u8; BLOCK], n: usize) -> usize
+    requires { n ≤ 128 }
+    ensures { NonzeroAt (λ i. get_or block i 0) n result }
 {
-    if places.len() == 0 {
-        return true;
+    let mut i = 0;
+    while i < n {
+        if block[i] != 0 {
+            return i;
+        }
+        i += 1;
     }
+    n
+}
+
+// One of n bytes of the XOR of the runs at the places, from `at` on, that is not zero; n where all are.
+fn nonzero_block(s: &[u8], places: &[usize], at: usize, n: usize) -> usize
+    requires { (n ≤ 128) × Inside (length s.now) places.now (at + n) }
+    ensures { NonzeroAt (λ t. sum_at s.now places.now (at + t)) n result }
+{
+    let sum = sum_runs(s, places, at, n);
+    if all_zero(sum, n) {
+        return n;
+    }
+    nonzero_byte(sum, n)
+}
+
+// One of n bytes of the XOR of the runs at the places, from `at` on, that is not zero, in blocks; n where all are.
+pub fn nonzero_at(s: &[u8], places: &[usize], at: usize, n: usize) -> usize
+    requires { Inside (length s.now) places.now (at + n) × (at + n < 2 ^ 64) }
+    ensures { NonzeroAt (λ t. sum_at s.now places.now (at + t)) n result }
+{
     if n < BLOCK {
-        return block_cancels(s, places, at, n);
+        return nonzero_block(s, places, at, n);
     }
     let mut done = 0;
     while done < n {
         let next = block_at(done, n);
-        if !block_cancels(s, places, at + next, BLOCK) {
-            return false;
+        let i = nonzero_block(s, places, at + next, BLOCK);
+        if i < BLOCK {
+            return next + i;
         }
         done = next + BLOCK;
     }
-    true
+    n
 }
 
 // XORs into n bytes of d at `to` those from `at` on of the runs of s at the places. Answers whether they are all zero now.
@@ -267,7 +296,7 @@ pub fn add_sum(d: &mut [u8], to: usize, s: &[u8], places: &[usize], at: usize, n
     if places.len() == 0 {
         // nothing is XORed in: the answer is of the run as it stands
         let own = [to; 1];
-        return runs_cancel(d, &own[..1], 0, n);
+        return nonzero_at(d, &own[..1], 0, n) == n;
     }
     let mut zero = true;
     let mut done = 0;
@@ -291,7 +320,7 @@ pub fn add_shared(d: &mut [u8], to: usize, s: &[u8], places: &[usize], at: usize
     if places.len() == 0 {
         // nothing is XORed in: the answer is of the run as it stands
         let own = [to; 1];
-        return runs_cancel(d, &own[..1], 0, n);
+        return nonzero_at(d, &own[..1], 0, n) == n;
     }
     let mut zero = true;
     let mut added = 0;

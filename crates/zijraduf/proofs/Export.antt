@@ -40,8 +40,8 @@ exported_write_one s row column bytes old a b x y ha hb =
     let same = write_one s row column bytes old x y ha.given hb.given ha.allowed hb.allowed in
     (same_numbers _ _ _ a b ha hb same.0, same.1)
 
-pub exported_bad_one : (s : Shape) (stripe : List ℕ) (lane : ℕ) (a b : Found) → InNumbers found_in_numbers (Finds s stripe lane) a → InNumbers found_in_numbers (Finds s stripe lane) b → a ≡ b
-exported_bad_one s stripe lane a b ha hb = same_numbers _ _ _ a b ha hb (bad_one s stripe lane ha.given hb.given ha.allowed hb.allowed)
+pub exported_bad_one : (s : Shape) (stripe : List ℕ) (a b : Found) → InNumbers found_in_numbers (Finds s stripe) a → InNumbers found_in_numbers (Finds s stripe) b → a ≡ b
+exported_bad_one s stripe a b ha hb = same_numbers _ _ _ a b ha hb (bad_one s stripe ha.given hb.given ha.allowed hb.allowed)
 
 pub exported_plan_one : (s : Shape) (k : ℕ) (a b : Planned) → InNumbers plan_in_numbers (Plans s k) a → InNumbers plan_in_numbers (Plans s k) b → a ≡ b
 exported_plan_one s k a b ha hb = same_numbers _ _ _ a b ha hb (plan_one s k ha.given hb.given ha.allowed hb.allowed)

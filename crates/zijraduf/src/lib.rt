@@ -171,12 +171,12 @@ pub extern "C" fn zijraduf_rebuild_columns(
     rebuild::columns(shape_from(shape), stripe, a, b)
 }
 
-// Bad column of a lane.
+// Bad column.
 #[unsafe(no_mangle)]
-pub extern "C" fn zijraduf_bad_column(shape: ShapeNumbers, stripe: &[u8], lane: usize) -> Found
-    ensures { Told shape (λ s. InNumbers found_in_numbers (Finds s stripe.now lane) result) }
+pub extern "C" fn zijraduf_bad_column(shape: ShapeNumbers, stripe: &[u8]) -> Found
+    ensures { Told shape (λ s. InNumbers found_in_numbers (Finds s stripe.now) result) }
 {
-    match bad::bad_column(shape_from(shape), stripe, lane) {
+    match bad::bad_column(shape_from(shape), stripe) {
         BadColumn::Clean => Found {
             refusal: 0,
             finding: 1,

@@ -72,7 +72,7 @@ static int lanes_agree(const uint8_t lanes[LANES], const uint64_t checks[SETS], 
         if (set == 0)
             continue;
         uint64_t count = list_members(set, LANE, places);
-        if (!is_zero_sum(lanes, places, count, n))
+        if (nonzero_at(lanes, places, count, n) != n)
             return 0;
     }
     return 1;

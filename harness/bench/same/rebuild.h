@@ -9,31 +9,29 @@
 #include "shape.h"
 #include "stripe.h"
 
-[[clang::noinline]] static uint64_t first_failing_with(struct zijraduf_shape shape, const uint8_t *stripe, size_t at,
-                                                       size_t n)
+[[clang::noinline]] static uint64_t first_failing_with(struct zijraduf_shape shape, const uint8_t *stripe)
 {
     uint8_t shared[CELL_MOST];
-    put_shared(shape, stripe, at, n, shared);
-    uint64_t equations = equation_count(shape), q = 0;
-    while (q < equations && !fails_with(shape, stripe + at, shared, q, n))
+    put_shared(shape, stripe, 0, shape.cell, shared);
+    uint64_t n = equation_count(shape), q = 0;
+    while (q < n && !fails_with(shape, stripe, shared, q))
         q++;
     return q;
 }
 
-/* The first equation that fails in the n bytes from `at` on, or the number of equations. */
-static uint64_t first_failing(struct zijraduf_shape shape, const uint8_t *stripe, size_t at, size_t n)
+static uint64_t first_failing(struct zijraduf_shape shape, const uint8_t *stripe)
 {
     if (shares(shape))
-        return first_failing_with(shape, stripe, at, n);
-    uint64_t equations = equation_count(shape), q = 0;
-    while (q < equations && !equation_fails(shape, stripe + at, q, n))
+        return first_failing_with(shape, stripe);
+    uint64_t n = equation_count(shape), q = 0;
+    while (q < n && !equation_fails(shape, stripe, q))
         q++;
     return q;
 }
 
 static uint64_t clean_or_not(struct zijraduf_shape shape, const uint8_t *stripe)
 {
-    return first_failing(shape, stripe, 0, shape.cell) == equation_count(shape) ? 0 : 12;
+    return first_failing(shape, stripe) == equation_count(shape) ? 0 : 12;
 }
 
 static uint64_t rebuild_lost(struct zijraduf_shape shape, uint8_t *stripe, const uint8_t map[CELLS])

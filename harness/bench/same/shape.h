@@ -118,13 +118,4 @@ static uint64_t columns_refusal(struct zijraduf_shape shape, size_t bytes, uint6
     return column_count(shape) <= a || column_count(shape) <= b ? 6 : 0;
 }
 
-/* A lane is in the cell where that of the cell's last byte is no lower. */
-static uint64_t lane_refusal(struct zijraduf_shape shape, size_t bytes, uint64_t lane)
-{
-    uint64_t refusal = stripe_refusal(shape, bytes);
-    if (refusal != 0)
-        return refusal;
-    return (shape.cell - 1) / ZIJRADUF_LANE < lane ? 6 : 0;
-}
-
 #endif

@@ -48,23 +48,21 @@ uint64_t SAME(encode)(struct zijraduf_shape shape, uint8_t *stripe, size_t lengt
     return 0;
 }
 
-/* In the first n bytes of each cell, with stripe + at for the stripe in the n bytes from `at` on: that takes fewer
- * instructions than to be told of both. Inlined here as well. */
-static int equation_fails(struct zijraduf_shape shape, const uint8_t *stripe, uint64_t q, size_t n)
+/* Inlined here as well. */
+static int equation_fails(struct zijraduf_shape shape, const uint8_t *stripe, uint64_t q)
 {
     uint64_t places[PLACES] = {0};
     struct sources from = sources_of(shape, q, places);
-    [[clang::always_inline]] return !is_sum(stripe, places, from.count, from.to, n);
+    [[clang::always_inline]] return !is_sum(stripe, places, from.count, from.to, shape.cell);
 }
 
-static int fails_with(struct zijraduf_shape shape, const uint8_t *stripe, const uint8_t *shared, uint64_t q,
-                      size_t n)
+static int fails_with(struct zijraduf_shape shape, const uint8_t *stripe, const uint8_t *shared, uint64_t q)
 {
     uint64_t places[PLACES] = {0};
     struct sources from = sources_with(shape, q, places);
     if (takes_shared(shape, q))
-        return !is_sum_with(stripe, places, from.count, from.to, shared, n);
-    return !is_sum(stripe, places, from.count, from.to, n);
+        return !is_sum_with(stripe, places, from.count, from.to, shared, shape.cell);
+    return !is_sum(stripe, places, from.count, from.to, shape.cell);
 }
 
 [[clang::noinline]] static uint64_t broken_with(struct zijraduf_shape shape, const uint8_t *stripe)
@@ -73,7 +71,7 @@ static int fails_with(struct zijraduf_shape shape, const uint8_t *stripe, const 
     put_shared(shape, stripe, 0, shape.cell, shared);
     uint64_t equations = equation_count(shape), broken = 0;
     for (uint64_t q = 0; q < equations; q++)
-        if (fails_with(shape, stripe, shared, q, shape.cell))
+        if (fails_with(shape, stripe, shared, q))
             broken += 1;
     return broken;
 }
@@ -87,7 +85,7 @@ struct zijraduf_count SAME(broken)(struct zijraduf_shape shape, const uint8_t *s
         return (struct zijraduf_count){0, broken_with(shape, stripe)};
     uint64_t equations = equation_count(shape), broken = 0;
     for (uint64_t q = 0; q < equations; q++)
-        if (equation_fails(shape, stripe, q, shape.cell))
+        if (equation_fails(shape, stripe, q))
             broken += 1;
     return (struct zijraduf_count){0, broken};
 }

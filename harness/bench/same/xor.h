@@ -166,25 +166,42 @@ static int put_sum_zero(uint8_t *d, size_t to, const uint8_t *s, const uint64_t 
     return zero;
 }
 
-static int is_zero_block(const uint8_t *s, const uint64_t *places, uint64_t count, size_t at, size_t n)
+static uint8_t sum_byte(const uint8_t *s, const uint64_t *places, uint64_t count, size_t t)
+{
+    uint8_t sum = 0;
+    for (uint64_t k = 0; k < count; k++)
+        sum ^= s[places[k] + t];
+    return sum;
+}
+
+static size_t nonzero_byte(const uint8_t block[BLOCK], size_t n)
+{
+    size_t i = 0;
+    while (i < n && block[i] == 0)
+        i++;
+    return i;
+}
+
+static size_t nonzero_block(const uint8_t *s, const uint64_t *places, uint64_t count, size_t at, size_t n)
 {
     uint8_t sum[BLOCK] = {0};
     sum_runs(sum, s, places, count, at, n);
-    return all_zero(sum, n);
+    return all_zero(sum, n) ? n : nonzero_byte(sum, n);
 }
 
-static int is_zero_sum(const uint8_t *s, const uint64_t *places, uint64_t count, size_t n)
+static size_t nonzero_at(const uint8_t *s, const uint64_t *places, uint64_t count, size_t n)
 {
     if (n < BLOCK)
-        return is_zero_block(s, places, count, 0, n);
+        return nonzero_block(s, places, count, 0, n);
     size_t done = 0;
     while (done < n) {
         size_t at = block_at(done, n);
-        if (!is_zero_block(s, places, count, at, BLOCK))
-            return 0;
+        size_t i = nonzero_block(s, places, count, at, BLOCK);
+        if (i < BLOCK)
+            return at + i;
         done = at + BLOCK;
     }
-    return 1;
+    return n;
 }
 
 static void add_block_sum(uint8_t *d, size_t to, const uint8_t *s, const uint64_t *places, uint64_t count, size_t at,

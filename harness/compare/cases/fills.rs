@@ -1,13 +1,9 @@
 //! What the stripe holds before a call.
 
 use crate::random::Random;
-use crate::second::call::LANE;
 use crate::second::shelf::Shelf;
-use std::ops::Range;
 
-/// A wholly random stripe has junk in its parity cells too. Altered bytes are each named by the
-/// number of their cell and their place in it. In `LanesAltered` lane 0 is altered in that column,
-/// and each next lane in the next one.
+/// A wholly random stripe has junk in its parity cells too.
 #[derive(Clone, Copy, PartialEq, Debug)]
 pub enum Fill {
     Written(usize),
@@ -21,15 +17,11 @@ pub enum Fill {
     CellAltered(usize),
     ColumnAltered(usize, Extent),
     TwoAltered(usize, usize, Extent),
-    BytesAltered([(usize, usize); 2]),
-    LaneAltered(usize, u64, Extent),
-    LaneOfTwoAltered(usize, usize, u64, Extent),
-    LanesAltered(usize, Extent),
     LoneByteInCell(usize),
 }
 
-/// How much of a column, or of a lane of it, is altered; something always is. A late bit lies past
-/// byte 512 of its cell, or in the last byte where there are no more, as in a lane.
+/// How much of a column is altered; something always is. A late bit lies past byte 512
+/// of its cell, or in the last byte where there are no more.
 #[derive(Clone, Copy, PartialEq, Debug)]
 pub enum Extent {
     Bit,
@@ -73,53 +65,33 @@ impl Fill {
                 }
             }
             Fill::CellAltered(n) => alter(&mut stripe[n * cell..][..cell], random),
-            Fill::BytesAltered(bytes) => {
-                for (n, byte) in bytes {
-                    stripe[n * cell + byte] ^= random.nonzero_byte();
+            Fill::ColumnAltered(c, extent) => {
+                extent.alter(&mut stripe[c * column..][..column], cell, random);
+            }
+            Fill::TwoAltered(a, b, extent) => {
+                for c in [a, b] {
+                    extent.alter(&mut stripe[c * column..][..column], cell, random);
                 }
             }
-            _ => {
-                for (c, within, extent) in self.altered(shelf, cell) {
-                    extent.alter(&mut stripe[c * column..][..column], cell, within, random);
-                }
-            }
-        }
-    }
-
-    /// The columns that are altered, within which bytes of each cell, and how much of those.
-    fn altered(self, shelf: &Shelf, cell: usize) -> Vec<(usize, Range<usize>, Extent)> {
-        let lane = |n: u64| (n * LANE) as usize..cell.min(((n + 1) * LANE) as usize);
-        match self {
-            Fill::ColumnAltered(c, extent) => vec![(c, 0..cell, extent)],
-            Fill::TwoAltered(a, b, extent) => vec![(a, 0..cell, extent), (b, 0..cell, extent)],
-            Fill::LaneAltered(c, n, extent) => vec![(c, lane(n), extent)],
-            Fill::LaneOfTwoAltered(a, b, n, extent) => vec![(a, lane(n), extent), (b, lane(n), extent)],
-            Fill::LanesAltered(c, extent) => {
-                let lanes = 0..(cell as u64).div_ceil(LANE);
-                lanes.map(|n| ((c + n as usize) % shelf.columns, lane(n), extent)).collect()
-            }
-            _ => Vec::new(),
+            _ => {}
         }
     }
 }
 
 impl Extent {
-    /// Alters a column within these bytes of each cell.
-    fn alter(self, column: &mut [u8], cell: usize, within: Range<usize>, random: &mut Random) {
+    fn alter(self, column: &mut [u8], cell: usize, random: &mut Random) {
         let one = random.below(column.len() / cell);
-        let mut parts: Vec<&mut [u8]> =
-            column.chunks_mut(cell).map(|bytes| &mut bytes[within.clone()]).collect();
         match self {
-            Extent::Bit => flip(parts[one], false, random),
-            Extent::LateBit => flip(parts[one], true, random),
+            Extent::Bit => flip(&mut column[one * cell..][..cell], false, random),
+            Extent::LateBit => flip(&mut column[one * cell..][..cell], true, random),
             Extent::Cells => {
-                for (row, bytes) in parts.into_iter().enumerate() {
+                for (row, bytes) in column.chunks_mut(cell).enumerate() {
                     if row == one || random.below(2) == 0 {
                         alter(bytes, random);
                     }
                 }
             }
-            Extent::Whole => parts.into_iter().flatten().for_each(|byte| *byte ^= random.nonzero_byte()),
+            Extent::Whole => column.iter_mut().for_each(|byte| *byte ^= random.nonzero_byte()),
         }
     }
 }

@@ -3,32 +3,16 @@
 use crate::cases::case::{Case, Cases};
 use crate::cases::fills::{Extent, Fill, EXTENTS, FILLS};
 use crate::cases::shapes::{codes, LARGE_CELLS, SMALL_CELLS};
-use crate::second::call::{Answer, Call, Shape, CLEAN, COLUMN, LANE, UNEXPLAINED};
+use crate::second::call::{Answer, Shape, CLEAN, COLUMN};
 use crate::second::rebuild::BAD_COLUMN;
 use crate::second::shelf::Shelf;
 
-/// Of what was made so that one column explains the lane, that two bytes of it need two columns,
-/// or that what is bad lies in other lanes.
+/// What was made so that one column explains it.
 pub fn known(case: &Case, shelf: &Shelf) -> Option<Answer> {
-    let Call { shape, lane, .. } = case.call;
-    let (clean, one_lane) = (Answer::found(CLEAN, 0), shape.lanes() == 1);
-    let named = |c: usize| Answer::found(COLUMN, c as u64);
     match case.fill {
-        Fill::Encoded => Some(clean),
-        Fill::CellAltered(n) if one_lane => Some(named(n / shelf.rows)),
-        Fill::ColumnAltered(c, extent) if one_lane || extent == Extent::Whole => Some(named(c)),
-        Fill::BytesAltered(bytes) => {
-            let bad: Vec<usize> =
-                bytes.into_iter().filter(|&(_, byte)| byte as u64 / LANE == lane).map(|(n, _)| n).collect();
-            Some(match bad[..] {
-                [] => clean,
-                [n] => named(n / shelf.rows),
-                _ => Answer::found(UNEXPLAINED, 0),
-            })
-        }
-        Fill::LaneAltered(_, bad, _) | Fill::LaneOfTwoAltered(_, _, bad, _) if bad != lane => Some(clean),
-        Fill::LaneAltered(c, ..) => Some(named(c)),
-        Fill::LanesAltered(c, _) => Some(named((c + lane as usize) % shelf.columns)),
+        Fill::Encoded => Some(Answer::found(CLEAN, 0)),
+        Fill::CellAltered(n) => Some(Answer::found(COLUMN, (n / shelf.rows) as u64)),
+        Fill::ColumnAltered(c, _) => Some(Answer::found(COLUMN, c as u64)),
         _ => None,
     }
 }
@@ -39,22 +23,11 @@ impl Cases<'_> {
         self.every_bad_column();
         self.every_two_bad_columns();
         self.finding_shapes();
-        self.lanes();
     }
 
-    pub fn find_in(&mut self, shape: Shape, lane: u64, fill: Fill) {
-        let case = self.case(Call { lane, ..self.good_call(BAD_COLUMN, shape) }, fill);
-        self.list.push(case);
-    }
-
-    /// In lane 0, and in any of the others.
     pub fn find(&mut self, shape: Shape, fill: Fill) {
-        self.find_in(shape, 0, fill);
-        let others = shape.lanes() as usize - 1;
-        if others > 0 {
-            let lane = 1 + self.random.below(others) as u64;
-            self.find_in(shape, lane, fill);
-        }
+        let case = self.case(self.good_call(BAD_COLUMN, shape), fill);
+        self.list.push(case);
     }
 
     /// Each cell of each code and prime is the only bad one: its column is named.
@@ -122,14 +95,11 @@ impl Cases<'_> {
         let columns = self.shelf(shape).columns;
         let [a, b] = [self.random.below(columns), self.random.below(columns)];
         let extent = self.random.one_of(&EXTENTS);
-        let fill = match self.random.below(6) {
+        let fill = match self.random.below(4) {
             0 => Fill::ColumnAltered(a, extent),
             1 if a != b => Fill::TwoAltered(a, b, extent),
-            2 => Fill::LanesAltered(a, extent),
-            3 => self.some_lane_bad(shape),
             _ => self.random.one_of(&FILLS),
         };
-        let lane = self.some_lane(shape);
-        self.find_in(shape, lane, fill);
+        self.find(shape, fill);
     }
 }

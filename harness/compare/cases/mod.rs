@@ -8,7 +8,6 @@ pub mod fields;
 pub mod fills;
 pub mod findings;
 pub mod jobs;
-pub mod lanes;
 pub mod lent;
 pub mod lists;
 pub mod loans;

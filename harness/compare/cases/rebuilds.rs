@@ -265,10 +265,7 @@ impl Cases<'_> {
                     self.push_lost(call, Fill::Random, Lost::NONE);
                 }
             }
-            for lane in [0, 1, u64::MAX] {
-                let call = Call { lane, ..Call::new(BAD_COLUMN, shape, length) };
-                self.push_lost(call, Fill::Random, Lost::NONE);
-            }
+            self.push_lost(Call::new(BAD_COLUMN, shape, length), Fill::Random, Lost::NONE);
         }
     }
 

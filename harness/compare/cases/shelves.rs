@@ -44,7 +44,6 @@ impl Cases<'_> {
             self.short_writes(p, m);
             self.short_rebuilds(p, m);
             self.short_findings(p, m);
-            self.short_lanes(p, m);
             self.short_plans(p, m);
             self.short_runs(p, m);
             self.short_shows(p, m);
@@ -153,14 +152,6 @@ impl Cases<'_> {
         }
     }
 
-    /// Cells of two lanes, on shelves of a few disks.
-    fn short_lanes(&mut self, p: u64, m: u64) {
-        if m <= 6 {
-            let cell = self.random.one_of(&[513, 1000, 1024]);
-            self.each_lane(Shape::short(p, cell, m));
-        }
-    }
-
     /// Every column, and those that a stripe of all columns has.
     fn short_plans(&mut self, p: u64, m: u64) {
         for k in (0..=p + 1).chain([u64::MAX]) {
@@ -260,7 +251,6 @@ impl Cases<'_> {
                 first: zero,
                 budget: 1,
                 done: one,
-                lane: zero,
                 ..Call::new(operation, shape, told(STRIPE, length))
             };
             if operation == REBUILD_CELLS {

@@ -46,9 +46,6 @@ const P4: [u8; 8] = [0x05, 0x04, 0x02, 0x08, 0x07, 0x0C, 0x09, 0x06];
 const P5: [u8; 8] = [0x01, 0x00, 0x02, 0x08, 0x03, 0x08, 0x09, 0x02];
 const P9: [u8; 8] = [0x00, 0x04, 0x03, 0x08, 0x03, 0x0C, 0x0D, 0x06];
 const P10: [u8; 8] = [0x00, 0x04, 0x02, 0x0A, 0x03, 0x0C, 0x0D, 0x06];
-const P9_P10: [u8; TWO_LANES] = two_lanes(P9, P10);
-const P1_P9: [u8; TWO_LANES] = two_lanes(P1, P9);
-const P10_P1: [u8; TWO_LANES] = two_lanes(P10, P1);
 const JOB_STRIPE: [u8; 8] = [0xEE, 0xEE, 0x02, 0x08, 0x03, 0x0C, 0x0D, 0x06];
 pub const JOB_BYTES: [u8; 31] = [
     0x01, 0x00, 0x01, 0x01, 0x02, 0x00, 0x01, 0x03, 0x03, 0x00, 0x02, 0x00, 0x01, 0x04, 0x00, 0x04, 0x00,
@@ -135,25 +132,6 @@ pub static WRITTEN: &[Written] = &[
     found(1, &P1, CLEAN, 0),
     found(2, &P2, CLEAN, 0),
     found(3, &P3, CLEAN, 0),
-    // Each in a lane of its own; lanes that the cell doesn't reach; and the first refusal that comes.
-    sized(513, in_lane(0, found(1, &P9_P10, COLUMN, 3))),
-    sized(513, in_lane(1, found(1, &P9_P10, UNEXPLAINED, 0))),
-    sized(513, in_lane(0, found(1, &P1_P9, CLEAN, 0))),
-    sized(513, in_lane(1, found(1, &P1_P9, COLUMN, 3))),
-    sized(513, in_lane(0, found(1, &P10_P1, UNEXPLAINED, 0))),
-    sized(513, in_lane(1, found(1, &P10_P1, CLEAN, 0))),
-    sized(513, unfound(1, &P9_P10, 2, 6)),
-    sized(513, unfound(1, &P9_P10, 1 << 55, 6)),
-    sized(513, unfound(1, &P9_P10, (1 << 55) + 1, 6)),
-    unfound(1, &P9, 1, 6),
-    unfound(1, &P10, u64::MAX, 6),
-    unfound(2, &P2, 1 << 55, 6),
-    unfound(3, &P3, 1 << 63, 6),
-    unfound(4, &EVENODD_ALTERED, 1 << 32, 6),
-    unfound(NO_CODE, &P9, u64::MAX, 1),
-    told(1, 3, unfound(1, &P9, u64::MAX, 14)),
-    sized(0, unfound(1, &P9, u64::MAX, 4)),
-    sized(2, unfound(1, &P9, u64::MAX, 5)),
     // Two whole columns and one more cell; all cells.
     lost_of(1, 3, &P1, &[0, 1, 2, 3, 4], 11, &P1),
     lost_of(2, 3, &P2, &[0, 1, 4, 5, 7], 11, &P2),
@@ -184,7 +162,6 @@ pub static WRITTEN: &[Written] = &[
     short(still(BROKEN, 1, 5, &SHORT_ALTERED, Answer::counted(3))),
     short(still(BAD_COLUMN, 1, 5, &SHORT, Answer::found(CLEAN, 0))),
     short(still(BAD_COLUMN, 1, 5, &SHORT_ALTERED, Answer::found(COLUMN, 2))),
-    short(in_lane(1, still(BAD_COLUMN, 1, 5, &SHORT_ALTERED, Answer::refused(6)))),
     short(lost_of(1, 5, &SHORT_LOST, &[0, 1, 2, 3, 4, 5, 6, 7], 0, &SHORT)),
     short(lost_of(1, 5, &SHORT, &[0, 1, 2, 3, 4, 5, 6, 7, 8], 11, &SHORT)),
     short(lost_of(1, 5, &SHORT, &[16], 6, &SHORT)),
@@ -320,27 +297,12 @@ pub static WRITTEN: &[Written] = &[
     refused(BAD_COLUMN, 33, 1, 2),
     refused(BAD_COLUMN, 3, 0, 4),
     refused(BAD_COLUMN, 3, 4097, 4),
-    in_lane(1 << 55, refused(BAD_COLUMN, 9, 1, 2)),
     refused(RUN, 9, 1, 2),
     refused(RUN, 2, 1, 2),
     refused(RUN, 33, 1, 2),
     refused(RUN, 3, 0, 4),
     refused(RUN, 3, 4097, 4),
 ];
-
-const TWO_LANES: usize = 8 * 513;
-
-/// A stripe with cells of 513 bytes: each byte of lane 0 is that of one stripe, the only one of
-/// lane 1 that of another.
-const fn two_lanes(first: [u8; 8], last: [u8; 8]) -> [u8; TWO_LANES] {
-    let mut stripe = [0; TWO_LANES];
-    let mut at = 0;
-    while at < TWO_LANES {
-        stripe[at] = if at % 513 < 512 { first[at / 513] } else { last[at / 513] };
-        at += 1;
-    }
-    stripe
-}
 
 /// A call with cells of one byte that leaves the stripe as it is.
 const fn still(operation: Operation, code: u64, p: u64, stripe: &'static [u8], answer: Answer) -> Written {
@@ -367,15 +329,6 @@ const fn counted(code: u64, stripe: &'static [u8], count: u64) -> Written {
 
 const fn found(code: u64, stripe: &'static [u8], finding: u64, column: u64) -> Written {
     still(BAD_COLUMN, code, 3, stripe, Answer::found(finding, column))
-}
-
-const fn in_lane(lane: u64, written: Written) -> Written {
-    Written { call: Call { lane, ..written.call }, ..written }
-}
-
-/// A search for p = 3 that is refused.
-const fn unfound(code: u64, stripe: &'static [u8], lane: u64, refusal: u64) -> Written {
-    in_lane(lane, still(BAD_COLUMN, code, 3, stripe, Answer::refused(refusal)))
 }
 
 const fn refused(operation: Operation, p: u64, cell: u64, refusal: u64) -> Written {

@@ -6,9 +6,6 @@ use std::fmt;
 #[derive(Clone, Copy, PartialEq, Eq, Debug)]
 pub struct Operation(pub u64);
 
-/// The bytes of a lane: lane n of a cell is its bytes 512n to 512n+511, as far as there are any.
-pub const LANE: u64 = 512;
-
 /// A number m of data columns is given where `data_given` is not 0, and then it is `data`.
 #[derive(Clone, Copy, PartialEq, Debug)]
 pub struct Shape {
@@ -33,17 +30,12 @@ impl Shape {
     pub fn m(&self) -> Option<u64> {
         (self.data_given != 0).then_some(self.data)
     }
-
-    /// How many lanes a cell reaches.
-    pub const fn lanes(&self) -> u64 {
-        self.cell.div_ceil(LANE)
-    }
 }
 
 /// What a call is told beside the bytes. Row and column are for a small write and a
 /// show, the length of the new bytes for a small write, the columns for a rebuild of
 /// columns; k is the lost column of a plan, a run and a show; plan, first row and budget
-/// are for a run, the rows done for a show, the lane for a search for a bad column.
+/// are for a run, the rows done for a show.
 #[derive(Clone, Copy)]
 pub struct Call {
     pub operation: Operation,
@@ -59,7 +51,6 @@ pub struct Call {
     pub first: u64,
     pub budget: u64,
     pub done: u64,
-    pub lane: u64,
 }
 
 impl Call {
@@ -78,12 +69,11 @@ impl Call {
             first: 0,
             budget: 0,
             done: 0,
-            lane: 0,
         }
     }
 
     /// The numbers that are told, lengths aside, in the order of the bridge's request.
-    pub fn numbers(&self) -> [(&'static str, u64); 15] {
+    pub fn numbers(&self) -> [(&'static str, u64); 14] {
         let Call { shape: Shape { code, p, cell, data_given, data }, columns: [a, b], .. } = *self;
         [
             ("code", code),
@@ -100,7 +90,6 @@ impl Call {
             ("first", self.first),
             ("budget", self.budget),
             ("done", self.done),
-            ("lane", self.lane),
         ]
     }
 }

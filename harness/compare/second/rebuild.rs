@@ -1,6 +1,6 @@
 //! The second program's rebuilds, and its search for a bad column.
 
-use crate::second::call::{Answer, Call, Lent, Operation, CLEAN, COLUMN, LANE, UNEXPLAINED};
+use crate::second::call::{Answer, Call, Lent, Operation, CLEAN, COLUMN, UNEXPLAINED};
 use crate::second::lost::Rebuilt;
 use crate::second::shapes::{answered, refuse_if, Second};
 use crate::second::shelf::Shelf;
@@ -18,15 +18,6 @@ pub fn cells_granted<'a>(second: &'a Second, call: &Call, lost: &[u64]) -> Resul
 pub fn columns_granted<'a>(second: &'a Second, call: &Call, _: &[u64]) -> Result<&'a Shelf, u64> {
     let shelf = second.stripe(call)?;
     refuse_if(call.columns.iter().any(|&n| n >= shelf.columns as u64), 6)?;
-    Ok(shelf)
-}
-
-/// The cell reaches a lane where it has the lane's first byte, whose number may need more than
-/// 64 bits.
-pub fn lane_granted<'a>(second: &'a Second, call: &Call, _: &[u64]) -> Result<&'a Shelf, u64> {
-    let shelf = second.stripe(call)?;
-    let first = u128::from(call.lane) * u128::from(LANE);
-    refuse_if(first >= u128::from(call.shape.cell), 6)?;
     Ok(shelf)
 }
 
@@ -65,27 +56,18 @@ fn rebuild(shelf: &Shelf, cell: usize, stripe: &mut [u8], lost: &[usize]) -> Res
     })
 }
 
-/// Cuts a lane out of every cell. Gives these pieces, and how many bytes each has.
-fn cut_lane(stripe: &[u8], call: &Call) -> (Vec<u8>, usize) {
-    let [cell, lane, longest] = [call.shape.cell, call.lane, LANE].map(|n| n as usize);
-    let pieces: Vec<&[u8]> =
-        stripe.chunks(cell).filter_map(|bytes| bytes.chunks(longest).nth(lane)).collect();
-    (pieces.concat(), pieces[0].len())
-}
-
-/// The lane is a stripe of its own, with smaller cells. Tries every column that exists: would
-/// the rebuild of it alone succeed there?
+/// Tries every column that exists: would the rebuild of it alone succeed?
 pub fn bad_column(second: &Second, call: &Call, lent: &mut Lent) -> Result<Answer, String> {
-    answered(lane_granted(second, call, &[]), |shelf| {
-        let (mut lane, cell) = cut_lane(&lent.stripe, call);
-        shelf.widened(cell, &mut lane, |whole, lane| {
-            if whole.broken(cell, lane) == 0 {
+    let cell = call.shape.cell as usize;
+    answered(second.stripe(call), |shelf| {
+        shelf.widened(cell, &mut lent.stripe, |whole, stripe| {
+            if whole.broken(cell, stripe) == 0 {
                 return Ok(Answer::found(CLEAN, 0));
             }
             let mut would_do = Vec::new();
             for column in 0..shelf.columns {
                 let lost = shelf.in_whole(&shelf.in_columns(column, column));
-                match whole.rebuilt(cell, lane, &lost) {
+                match whole.rebuilt(cell, stripe, &lost) {
                     Rebuilt::Cells(_) => would_do.push(column),
                     Rebuilt::Disagree => {}
                     Rebuilt::Undetermined => return Err(format!("column {column} is undetermined")),

@@ -5,21 +5,20 @@ use Rattle.bad.proofs.find.Statement.{statement}
 use Rattle.bad.proofs.find.Tie as tie
 
 first-failing-requires : tie.Need-first-failing-requires
-first-failing-requires c κs = c.before.requires.0
+first-failing-requires c κs = c.before.requires
 
 equation-count-requires : tie.Need-equation-count-requires
-equation-count-requires c κs = c.before.before.requires.0.formed
+equation-count-requires c κs = c.before.before.requires.formed
 
 returns : tie.Need-returns
 returns c =
-    let a = c.before.before.before.before.args in
-    clean_in a.shape a.stripe.now a.at a.n _ c.before.before.first-failing.ensures (c.if1.true ∙ c.before.equation-count.ensures)
+    let start = c.before.before.before.before in
+    clean_in start.args.shape start.requires.formed start.args.stripe.now start.args.at start.args.n _ c.before.before.first-failing.ensures (c.if1.true ∙ c.before.equation-count.ensures)
 
 name-column-requires : tie.Need-name-column-requires
 name-column-requires c κs =
-    let start = c.before.before.before.before in
-    let first = c.before.before.first-failing.ensures in
-    (start.requires.0, start.requires.1, first_below _ _ _ _ first c.before.equation-count.ensures c.if1.false, first)
+    let first = first_below _ _ _ _ c.before.before.first-failing.ensures c.before.equation-count.ensures c.if1.false in
+    (c.before.before.before.before.requires, first.0, first.1)
 
 returns-2 : tie.Need-returns-2
 returns-2 c = c.name-column.ensures

@@ -1,5 +1,5 @@
 -- `lanes::lane_agrees` meets its contract. The totals that the checks need are in their lanes.
-use Rattle.lanes.proofs.Lanes.{checks_say, failing_within, failing_tells}
+use Rattle.lanes.proofs.Lanes.{checks_say}
 use mathlib.Core.Path.{sym, ◌∙◌}
 use Rattle.lanes.proofs.lane_agrees.Statement.{statement}
 use Rattle.lanes.proofs.lane_agrees.Tie as tie
@@ -16,13 +16,9 @@ same_length c = c.before.before.before.before.put-totals.ensures.0.long ∙ sym 
 
 returns : tie.Need-returns
 returns c =
-    let put = c.before.before.before.before in
-    let start = put.before.before.before.before in
-    let a = start.args in
-    let exact = put.put-totals.ensures.1 in (
-      checks_say a.shape start.requires.0.window.formed a.stripe.now a.set a.at a.n _ put.put-totals.ensures.0 _ (failing_within a.shape a.stripe.now a.set a.at a.n _ exact) a.v a.checks.now _ start.requires.1
-          (λ j l q p. failing_tells a.shape a.stripe.now a.set a.at a.n _ exact q (start.requires.2.within j l q p)) c.lanes-agree.ensures,
-      put.put-totals.ensures.0.long,
+    let a = c.before.before.before.before.before.before.before.before.args in (
+      checks_say a.shape c.before.before.before.before.before.before.before.before.requires.0.window.formed a.stripe.now a.set a.at a.n _ c.before.before.before.before.put-totals.ensures.0 _ c.before.before.before.before.put-totals.ensures.1 a.v a.checks.now _ c.before.before.before.before.before.before.before.before.requires.1 c.before.before.before.before.before.before.before.before.requires.2 c.lanes-agree.ensures,
+      c.before.before.before.before.put-totals.ensures.0.long,
     )
 
 pub lane-agrees-spec : {M : Type 1} → statement M

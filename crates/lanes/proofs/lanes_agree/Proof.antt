@@ -5,7 +5,7 @@ use lib.Bits.{bit_and}
 use lib.ListN.{length, get_or}
 use Rattle.xor.proofs.Runs.{first_long}
 use Rattle.lanes.specs.Lanes.{lane_sum}
-use borrow.Author.Tests.{not-true, not-false}
+use borrow.Author.Tests.{eq-eqb, ne_eqb}
 use Rattle.lanes.proofs.Lanes.{lanes_inside, lanes_say, no_lanes, all_more, says_not, says_all}
 use native.Mathlib.Omega.{arith}
 use borrow.Author.Rules.{rules}
@@ -45,11 +45,11 @@ list-members-requires c κs = (c.before.before.before.before.loop.invariant.1, o
 array-share-prefix-places : tie.Need-array-share-prefix-places invariant-loop decreases-loop
 array-share-prefix-places c = omega (arith, c.list-members.ensures.few, c.list-members.ensures.long)
 
-slice-aggregate-runs-cancel : tie.Need-slice-aggregate-runs-cancel invariant-loop decreases-loop
-slice-aggregate-runs-cancel c = sym (first_long _ _ (omega (arith, c.before.list-members.ensures.few, c.before.list-members.ensures.long)))
+slice-aggregate-nonzero-at : tie.Need-slice-aggregate-nonzero-at invariant-loop decreases-loop
+slice-aggregate-nonzero-at c = sym (first_long _ _ (omega (arith, c.before.list-members.ensures.few, c.before.list-members.ensures.long)))
 
-runs-cancel-requires : tie.Need-runs-cancel-requires invariant-loop decreases-loop
-runs-cancel-requires c κs =
+nonzero-at-requires : tie.Need-nonzero-at-requires invariant-loop decreases-loop
+nonzero-at-requires c κs =
     let start = c.before.before.before.before.before.before.before.before in
     (lanes_inside start.args.lanes.now _ _ _ c.before.list-members.ensures (0 + start.args.n) _ (omega (arith, start.requires.1)) start.requires.0, omega (arith, start.requires.1))
 
@@ -58,7 +58,7 @@ returns c =
     let a = c.before.before.before.before.before.before.before.before.before.before.args in
     let turn = c.before.before.before.before.before.before.before.before.loop in
     says_not (λ k. (i : ℕ) → i < a.n → lane_sum a.lanes.now (bit_and (get_or a.checks.now k 0) a.failing) i ≡ 0) a.v turn.j _ c.before.before.before.before.before.before.before.loop-test.true
-    (lanes_say a.lanes.now _ _ _ c.before.before.before.list-members.ensures a.n _ c.before.runs-cancel.ensures) (not-true c.before.runs-cancel.result c.if2.true)
+    (lanes_say a.lanes.now _ _ _ c.before.before.before.list-members.ensures a.n _ c.before.nonzero-at.ensures) (ne_eqb c.before.nonzero-at.result a.n c.if2.true)
 
 loop-less-2 : tie.Need-loop-smaller-2 invariant-loop decreases-loop
 loop-less-2 c = omega arith
@@ -71,7 +71,7 @@ loop-again-2 c =
       omega arith,
       members.long,
       all_more (λ k. (i : ℕ) → i < a.n → lane_sum a.lanes.now (bit_and (get_or a.checks.now k 0) a.failing) i ≡ 0) turn.j turn.invariant.2
-          ((lanes_say a.lanes.now _ _ _ members a.n _ c.before.runs-cancel.ensures).yes (not-false c.before.runs-cancel.result c.if2.false)),
+          ((lanes_say a.lanes.now _ _ _ members a.n _ c.before.nonzero-at.ensures).yes (eq-eqb c.before.nonzero-at.result a.n c.if2.false)),
     )
 
 returns-2 : tie.Need-returns-2 invariant-loop decreases-loop
@@ -93,8 +93,8 @@ lanes-agree-spec =
     loop-again
     list-members-requires
     array-share-prefix-places
-    slice-aggregate-runs-cancel
-    runs-cancel-requires
+    slice-aggregate-nonzero-at
+    nonzero-at-requires
     returns
     loop-less-2
     loop-again-2

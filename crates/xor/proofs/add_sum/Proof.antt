@@ -15,11 +15,11 @@ invariant-loop d₀ to s places at n zero₀ done₀ d zero done = (done ≤ n) 
 abbrev decreases-loop : tie.decreases-loop
 decreases-loop d₀ to s places at n zero₀ done₀ d zero done = n - done
 
-slice-aggregate-runs-cancel : tie.Need-slice-aggregate-runs-cancel invariant-loop decreases-loop
-slice-aggregate-runs-cancel c = search rules
+slice-aggregate-nonzero-at : tie.Need-slice-aggregate-nonzero-at invariant-loop decreases-loop
+slice-aggregate-nonzero-at c = search rules
 
-runs-cancel-requires : tie.Need-runs-cancel-requires invariant-loop decreases-loop
-runs-cancel-requires c κs = let start = c.before.before.before.before.before.before in (one_inside start.args.d.now start.args.to (0 + start.args.n) (omega (arith, start.requires.1)), omega (arith, start.ranges.n))
+nonzero-at-requires : tie.Need-nonzero-at-requires invariant-loop decreases-loop
+nonzero-at-requires c κs = let start = c.before.before.before.before.before.before in (one_inside start.args.d.now start.args.to (0 + start.args.n) (omega (arith, start.requires.1)), omega (arith, start.ranges.n))
 
 same_length : tie.Need-same-length invariant-loop decreases-loop
 same_length c = search rules
@@ -27,7 +27,7 @@ same_length c = search rules
 returns : tie.Need-returns invariant-loop decreases-loop
 returns c =
     let a = c.before.before.before.before.before.before.before.args in
-    summed_no_runs a.d.now a.s.now a.places.now a.to a.at a.n _ c.before.before.before.if1.true c.runs-cancel.ensures
+    summed_no_runs a.d.now a.s.now a.places.now a.to a.at a.n _ c.before.before.before.if1.true c.nonzero-at.ensures
 
 loop-holds : tie.Need-loop-init invariant-loop decreases-loop
 loop-holds c = (omega arith, summed_none _ _ _)
@@ -103,8 +103,8 @@ add-sum-spec =
     (tie.spec
     invariant-loop
     decreases-loop
-    slice-aggregate-runs-cancel
-    runs-cancel-requires
+    slice-aggregate-nonzero-at
+    nonzero-at-requires
     same_length
     returns
     loop-holds
