@@ -1,5 +1,6 @@
 // The search for a bad column: the one whose replacement alone makes the stripe encoded. The call takes any numbers and any bytes: what can't be
 // done is refused by its number.
+#![tactic(auto)]
 ghost use Rattle.std.specs.Prelude.{◌≡◌, true, ◌<◌, length};
 ghost use Rattle.xor.specs.Runs.{Says};
 ghost use Rattle.codes.specs.Shape.{rows, columns, equations, stripe_length, WellFormed};
@@ -13,7 +14,7 @@ use codes::Shape;
 use decide::Decided;
 
 // What bad column answers: the stripe is encoded; the one column whose replacement makes it encoded; neither; or a refusal number.
-#[derive(Drop)]
+#[derive(Clone, Copy)]
 pub enum BadColumn {
     Clean,
     Column(usize),

@@ -1,4 +1,5 @@
 // The shape of a stripe, and the published equations of RDP, H-Code, X-Code and EVENODD.
+#![tactic(auto)]
 ghost use Rattle.std.specs.Prelude.{◌≡◌, true, false, cond, eqb, ◌+◌, ◌%◌, ◌≤◌, ◌<◌, length};
 ghost use Rattle.codes.specs.Shape.{rows, columns, cells, equations, cell_number, disks, existing, stripe_length, WellFormed};
 ghost use Rattle.codes.specs.Geometry.{callers_cell, place};
@@ -24,7 +25,7 @@ pub const MOST_CELL: usize = 4096;
 pub const PLACES: usize = 32;
 
 // How many data columns a stripe has: as many as its code says, or of RDP's p - 1 only the first m; those after them don't exist.
-#[derive(Drop)]
+#[derive(Clone, Copy)]
 pub enum Width {
     Full,
     Data(usize),
@@ -32,7 +33,7 @@ pub enum Width {
 
 // What describes a stripe: the code (1 RDP, 2 H-Code, 3 X-Code, 4 EVENODD), the prime, the bytes in a cell, and its data columns. Any numbers may
 // stand here.
-#[derive(Drop)]
+#[derive(Clone, Copy)]
 pub struct Shape {
     pub code: usize,
     pub p: usize,
@@ -41,14 +42,14 @@ pub struct Shape {
 }
 
 // What a call answers that counts: how many, or a refusal number.
-#[derive(Drop)]
+#[derive(Clone, Copy)]
 pub enum Counted {
     Count(usize),
     Refused(usize),
 }
 
 // The rows, columns and equations of a stripe.
-#[derive(Drop)]
+#[derive(Clone, Copy)]
 struct Extent {
     rows: usize,
     columns: usize,
@@ -57,7 +58,7 @@ struct Extent {
 
 // An equation's cells, numbered as they lie: its parity cell `to`, and those that it sums by itself: `count` of them from `first` on, each `step`
 // cells past the one before, but cell `turn`, which is `second`; and the cell `extra`, if that is not 0. Shared cells have no parity cell: `to` is 0.
-#[derive(Drop)]
+#[derive(Clone, Copy)]
 struct Line {
     to: usize,
     count: usize,
@@ -69,7 +70,7 @@ struct Line {
 }
 
 // Where in the stripe's bytes an equation's parity cell starts, and how many cells the equation sums by itself.
-#[derive(Drop)]
+#[derive(Clone, Copy)]
 pub struct Sources {
     pub to: usize,
     pub count: usize,

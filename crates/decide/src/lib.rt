@@ -1,4 +1,5 @@
 // Whether the survivors determine the lost cells, and how these are then found.
+#![tactic(auto)]
 ghost use Rattle.std.specs.Prelude.{◌≡◌, ℕ, ◌≤◌, ◌<◌, length, get_or};
 ghost use Rattle.codes.specs.Shape.{columns, cells, existing, WellFormed};
 ghost use Rattle.codes.specs.Agree.{in_columns};
@@ -13,7 +14,7 @@ pub const MAP: usize = 990;
 
 // What was decided of a set of lost cells: the survivors determine them, and this is how many there are and how many checks the survivors have to
 // pass; or they leave them open.
-#[derive(Drop)]
+#[derive(Clone, Copy)]
 pub enum Decided {
     Solved { lost: usize, checks: usize },
     Open,

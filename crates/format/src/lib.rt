@@ -1,4 +1,5 @@
 // The bytes of a rebuild job: its fields are found, or that there is no job.
+#![tactic(auto)]
 ghost use Rattle.std.specs.Prelude.{◌≡◌, ◌+◌, ◌≤◌, ◌<◌, length, take, drop};
 ghost use Rattle.format.specs.Format.{two_bytes_of};
 ghost use Rattle.format.specs.Places.{HasField, FindsField, FindsNumbers, FindsTail};
@@ -19,28 +20,28 @@ pub const MOST_STRIPE: usize = 32768;
 const ABSENT_CELL: usize = 1024;
 
 // What looking for a field at a place finds: how many bytes of content it has, or that it isn't there.
-#[derive(Drop)]
+#[derive(Clone, Copy)]
 enum Content {
     There(usize),
     Missing,
 }
 
 // What reading finds at the start of the input: the shape that a job's numbers give and where the next field starts, or no job's numbers.
-#[derive(Drop)]
+#[derive(Clone, Copy)]
 enum Numbers {
     Begin { shape: Shape, next: usize },
     NoBegin,
 }
 
 // What reading finds for fields 04 and 05: how many lost cell numbers they hold and how many bytes of stripe, or no end of a job.
-#[derive(Drop)]
+#[derive(Clone, Copy)]
 enum Tail {
     End { count: usize, bytes: usize },
     NoEnd,
 }
 
 // The shape of a job's stripe, and where in the bytes the lost cell numbers and the stripe start and how many of them there are.
-#[derive(Drop)]
+#[derive(Clone, Copy)]
 pub struct Fields {
     pub shape: Shape,
     pub lost_at: usize,
@@ -50,7 +51,7 @@ pub struct Fields {
 }
 
 // What reading finds: a job's fields, or that the bytes are no job's.
-#[derive(Drop)]
+#[derive(Clone, Copy)]
 pub enum Found {
     Lies(Fields),
     NoJob,

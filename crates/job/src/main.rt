@@ -1,12 +1,13 @@
 // The job program: reads a rebuild job from standard input and writes the answer to standard output. Where it can't read or write it says so on
 // standard error.
+#![tactic(auto)]
 ghost use Rattle.std.specs.Prelude.{length};
 ghost use Rattle.job.specs.Input.{Within};
 
 use libc::{STDIN_FILENO, STDOUT_FILENO};
 
 // What came: so many bytes, or a read that failed.
-#[derive(Drop)]
+#[derive(Clone, Copy)]
 enum Input {
     Bytes(usize),
     Failed,

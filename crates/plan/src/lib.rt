@@ -1,5 +1,6 @@
 // RDP with one lost column: a plan of what to read, and which plans are accepted.
 // Callers number columns as they lie in the stripe; the rule and the equations number them as published.
+#![tactic(auto)]
 ghost use Rattle.std.specs.Prelude.{◌≡◌, true};
 ghost use Rattle.refusals.specs.Refusals.{refusal};
 ghost use Rattle.plan.specs.Plan.{column_reads, cells_read, ByRule, is_accepted};
@@ -11,14 +12,14 @@ use codes::Shape;
 
 // A plan for one lost column: bit i of `rows` is 1 where row i is taken by its diagonal and 0 where by its row; how many distinct
 // cells the plan reads.
-#[derive(Drop)]
+#[derive(Clone, Copy)]
 pub struct ReadPlan {
     pub rows: u64,
     pub reads: usize,
 }
 
 // What plan answers: the plan, or a refusal number.
-#[derive(Drop)]
+#[derive(Clone, Copy)]
 pub enum PlanAnswer {
     Plan(ReadPlan),
     Refused(usize),

@@ -1,5 +1,6 @@
 // A look at a cell of an RDP stripe while one column is being rebuilt into a spare. It takes any numbers and any bytes: what can't be done is refused
 // by its number. Callers number columns as they lie in the stripe.
+#![tactic(auto)]
 ghost use Rattle.std.specs.Prelude.{◌≡◌};
 ghost use Rattle.refusals.specs.Refusals.{refusal};
 ghost use Rattle.show.specs.Refusals.{show_faults};
@@ -8,7 +9,7 @@ ghost use Rattle.show.specs.Show.{reason, Shown, Shows};
 use codes::Shape;
 
 // Where a shown cell starts: in the stripe or in the spare; or a refusal number.
-#[derive(Drop)]
+#[derive(Clone, Copy)]
 pub enum ShownAt {
     Stripe(usize),
     Spare(usize),

@@ -1,11 +1,12 @@
 // Elimination on at most 63 equations and 64 lost cells. Sets of either are the bits of a u64.
+#![tactic(auto)]
 ghost use Rattle.std.specs.Prelude.{◌≡◌, ◌≤◌, ◌<◌, length, get_or};
 ghost use Rattle.bits.specs.Bit.{IsLowest};
 ghost use Rattle.solve.specs.Masked.{first_cell, starts_at, Holding, Added, Own, Eliminates};
 
 // What elimination answers: it passed all lost cells, and this is the set of the equations that it didn't use; or it stopped at one that has
 // no equation.
-#[derive(Drop)]
+#[derive(Clone, Copy)]
 pub enum Eliminated {
     Passed(u64),
     Stopped,

@@ -1,6 +1,7 @@
 // RDP with one lost column: the rebuild by plan into a spare column.
 // Each call takes any numbers and any bytes: what can't be done is refused by its number, with every byte as it was. Callers number columns as
 // they lie in the stripe; past the refusals column k is as the equations number it.
+#![tactic(auto)]
 ghost use Rattle.std.specs.Prelude.{◌≡◌, ◌+◌, ◌-◌, ◌*◌, ◌≤◌, ◌<◌, min, length};
 ghost use Rattle.codes.specs.Shape.{rows, missing, WellFormed};
 ghost use Rattle.refusals.specs.Refusals.{refusal};
@@ -24,7 +25,7 @@ const LEVEL: usize = 2 * codes::PLACES;
 const SLOTS: usize = LEVEL + codes::PLACES;
 
 // Where in the list a row's own places start, and how many cells past them its cells do.
-#[derive(Drop)]
+#[derive(Clone, Copy)]
 struct Window {
     from: usize,
     ahead: usize,

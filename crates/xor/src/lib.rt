@@ -1,5 +1,7 @@
 // XOR of runs of bytes in slices: what nearly all the work on a stripe is made of.
 // A run is summed a block at a time. Whatever stores a sum answers whether the bytes that it stored are all zero.
+#![tactic(auto)]
+
 ghost use Rattle.std.specs.Prelude.{◌≡◌, true, false, ℕ, ◌+◌, ◌^◌, ◌≤◌, ◌<◌, length, get_or};
 ghost use Rattle.xor.specs.Xor.{◌⊕◌};
 ghost use Rattle.xor.specs.Runs.{sum_at, changed_by, added_to, Inside, Apart, Beside, Added, Put, Says, Summed, NonzeroAt};

@@ -1,4 +1,5 @@
 // The library for C: include/zijraduf.h declares these functions. Each hands its arguments to the Rattle call and answers as that does.
+#![tactic(auto)]
 ghost use Rattle.std.specs.Prelude.{◌≡◌, length};
 ghost use Rattle.stripe.specs.Encode.{Encodes};
 ghost use Rattle.stripe.specs.Broken.{Counts};
@@ -19,7 +20,7 @@ use spare::PlanAnswer;
 
 // What describes a stripe, in numbers: its code, its prime, the bytes in a cell, and a number m of data columns, where `given` is not 0.
 #[repr(C)]
-#[derive(Drop)]
+#[derive(Clone, Copy)]
 pub struct ShapeNumbers {
     pub code: usize,
     pub p: usize,
@@ -30,7 +31,7 @@ pub struct ShapeNumbers {
 
 // A refusal number, or 0 and a count.
 #[repr(C)]
-#[derive(Drop)]
+#[derive(Clone, Copy)]
 pub struct Count {
     pub refusal: usize,
     pub count: usize,
@@ -38,7 +39,7 @@ pub struct Count {
 
 // A refusal number, or 0 and what bad column finds: 1 clean, 2 a column, 3 unexplained; and the column.
 #[repr(C)]
-#[derive(Drop)]
+#[derive(Clone, Copy)]
 pub struct Found {
     pub refusal: usize,
     pub finding: usize,
@@ -47,7 +48,7 @@ pub struct Found {
 
 // A refusal number, or 0 and a plan: the mask of the rows taken by diagonal, and how many distinct cells are read.
 #[repr(C)]
-#[derive(Drop)]
+#[derive(Clone, Copy)]
 pub struct Planned {
     pub refusal: usize,
     pub rows: u64,
@@ -56,7 +57,7 @@ pub struct Planned {
 
 // A refusal number, or 0 and the part of a lent buffer that is a cell: 1 the stripe or 2 the spare, where the part starts, how long it is.
 #[repr(C)]
-#[derive(Drop)]
+#[derive(Clone, Copy)]
 pub struct Part {
     pub refusal: usize,
     pub buffer: usize,
