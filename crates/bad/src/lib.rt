@@ -1,6 +1,7 @@
 // The search for a bad column: the one whose replacement alone makes the stripe encoded. The call takes any numbers and any bytes: what can't be
 // done is refused by its number.
 #![tactic(auto)]
+
 ghost use Rattle.std.specs.Prelude.{◌≡◌, true, ◌<◌, length};
 ghost use Rattle.xor.specs.Runs.{Says};
 ghost use Rattle.codes.specs.Shape.{rows, columns, equations, stripe_length, WellFormed};

@@ -1,6 +1,7 @@
 // RDP with one lost column: the balanced plan, by which each surviving column below p is read as often as the others.
 // Columns are numbered as they lie in the stripe; where all exist, as they have to here, the equations number them alike.
 #![tactic(auto)]
+
 ghost use Rattle.std.specs.Prelude.{◌≡◌};
 ghost use Rattle.refusals.specs.Refusals.{refusal};
 ghost use Rattle.balance.specs.Balance.{offered};

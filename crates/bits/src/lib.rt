@@ -1,5 +1,6 @@
 // Sets of numbers below 64, each set the bits of a u64: their members and unions.
 #![tactic(auto)]
+
 ghost use Rattle.std.specs.Prelude.{◌≡◌, ◌≢◌, ◌^◌, ◌≤◌, ◌<◌, length};
 ghost use Rattle.bits.specs.Bit.{bit, IsLowest, Members, Union};
 

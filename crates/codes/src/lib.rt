@@ -1,5 +1,6 @@
 // The shape of a stripe, and the published equations of RDP, H-Code, X-Code and EVENODD.
 #![tactic(auto)]
+
 ghost use Rattle.std.specs.Prelude.{◌≡◌, true, false, cond, eqb, ◌+◌, ◌%◌, ◌≤◌, ◌<◌, length};
 ghost use Rattle.codes.specs.Shape.{rows, columns, cells, equations, cell_number, disks, existing, stripe_length, WellFormed};
 ghost use Rattle.codes.specs.Geometry.{callers_cell, place};

@@ -1,5 +1,6 @@
 // Whether the survivors determine the lost cells, and how these are then found.
 #![tactic(auto)]
+
 ghost use Rattle.std.specs.Prelude.{◌≡◌, ℕ, ◌≤◌, ◌<◌, length, get_or};
 ghost use Rattle.codes.specs.Shape.{columns, cells, existing, WellFormed};
 ghost use Rattle.codes.specs.Agree.{in_columns};

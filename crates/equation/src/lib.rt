@@ -1,6 +1,7 @@
 // One equation on the bytes of a stripe: its cells are listed, and a leaf of crate xor goes over n bytes of each, from byte `at` on.
 // What several equations share (of EVENODD S) is summed before them, once a window, and lent to each as `shared`.
 #![tactic(auto)]
+
 ghost use Rattle.std.specs.Prelude.{◌≡◌, ◌≢◌, true, false, ℕ, ◌+◌, ◌≤◌, ◌<◌, length, get_or};
 ghost use Rattle.xor.specs.Xor.{◌⊕◌};
 ghost use Rattle.xor.specs.Runs.{Put, Summed};

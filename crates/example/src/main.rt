@@ -1,6 +1,7 @@
 // The calls from Rattle, on small stripes: RDP with p = 3 and cells of one byte, 2 rows and 4 columns, then a shelf of five disks, then
 // EVENODD, then a balanced plan.
 #![tactic(auto)]
+
 use bad::BadColumn;
 use codes::{Counted, Shape, Width};
 use libc::STDOUT_FILENO;

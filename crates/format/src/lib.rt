@@ -1,5 +1,6 @@
 // The bytes of a rebuild job: its fields are found, or that there is no job.
 #![tactic(auto)]
+
 ghost use Rattle.std.specs.Prelude.{◌≡◌, ◌+◌, ◌≤◌, ◌<◌, length, take, drop};
 ghost use Rattle.format.specs.Format.{two_bytes_of};
 ghost use Rattle.format.specs.Places.{HasField, FindsField, FindsNumbers, FindsTail};

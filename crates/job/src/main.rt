@@ -1,6 +1,7 @@
 // The job program: reads a rebuild job from standard input and writes the answer to standard output. Where it can't read or write it says so on
 // standard error.
 #![tactic(auto)]
+
 ghost use Rattle.std.specs.Prelude.{length};
 ghost use Rattle.job.specs.Input.{Within};
 

@@ -1,5 +1,6 @@
 // A rebuild job as a function on bytes: its fields are read, the lost cells rebuilt, and the answer's fields written.
 #![tactic(auto)]
+
 ghost use Rattle.std.specs.Prelude.{◌≡◌, ◌+◌, ◌*◌, ◌≤◌, ◌<◌, length};
 ghost use Rattle.format.specs.Format.{most_lost, most_stripe, Job, field, answer_bytes};
 ghost use Rattle.format.specs.Reading.{Holds};

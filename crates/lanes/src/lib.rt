@@ -1,6 +1,7 @@
 // Sums of equations in lanes: the totals of up to 512 bytes of each equation at a time, in lanes on the stack. By them survivors are
 // checked and lost cells are mended.
 #![tactic(auto)]
+
 ghost use Rattle.std.specs.Prelude.{◌≡◌, true, ℕ, ◌+◌, ◌*◌, ◌≤◌, ◌<◌, length, get_or};
 ghost use Rattle.std.specs.Int.Bits.{bit_and};
 ghost use Rattle.xor.specs.Runs.{Says};

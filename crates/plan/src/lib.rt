@@ -1,6 +1,7 @@
 // RDP with one lost column: a plan of what to read, and which plans are accepted.
 // Callers number columns as they lie in the stripe; the rule and the equations number them as published.
 #![tactic(auto)]
+
 ghost use Rattle.std.specs.Prelude.{◌≡◌, true};
 ghost use Rattle.refusals.specs.Refusals.{refusal};
 ghost use Rattle.plan.specs.Plan.{column_reads, cells_read, ByRule, is_accepted};

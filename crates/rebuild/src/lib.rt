@@ -1,6 +1,7 @@
 // Rebuild of lost cells and of columns. Each call takes any numbers and any bytes: what can't be done is refused by its number, with every
 // byte as it was.
 #![tactic(auto)]
+
 ghost use Rattle.std.specs.Prelude.{◌≡◌, length};
 ghost use Rattle.codes.specs.Shape.{stripe_length, WellFormed};
 ghost use Rattle.decide.specs.Solver.{lost_in, OnlyThere};

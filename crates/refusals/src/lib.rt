@@ -1,5 +1,6 @@
 // The refusals that calls share, by their numbers: of a shape, of a stripe's length, of a small write, and of calls that name cells or columns.
 #![tactic(auto)]
+
 ghost use Rattle.std.specs.Prelude.{◌≡◌, true, ℕ, ◌<◌, ltb, length, get_or};
 ghost use Rattle.xor.specs.Runs.{Says};
 ghost use Rattle.codes.specs.Shape.{listed, rows, missing, wrong_data, disks, WellFormed};

@@ -1,6 +1,7 @@
 // A look at a cell of an RDP stripe while one column is being rebuilt into a spare. It takes any numbers and any bytes: what can't be done is refused
 // by its number. Callers number columns as they lie in the stripe.
 #![tactic(auto)]
+
 ghost use Rattle.std.specs.Prelude.{◌≡◌};
 ghost use Rattle.refusals.specs.Refusals.{refusal};
 ghost use Rattle.show.specs.Refusals.{show_faults};

@@ -1,5 +1,6 @@
 // Elimination on at most 63 equations and 64 lost cells. Sets of either are the bits of a u64.
 #![tactic(auto)]
+
 ghost use Rattle.std.specs.Prelude.{◌≡◌, ◌≤◌, ◌<◌, length, get_or};
 ghost use Rattle.bits.specs.Bit.{IsLowest};
 ghost use Rattle.solve.specs.Masked.{first_cell, starts_at, Holding, Added, Own, Eliminates};

@@ -2,6 +2,7 @@
 // Each call takes any numbers and any bytes: what can't be done is refused by its number, with every byte as it was. Callers number columns as
 // they lie in the stripe; past the refusals column k is as the equations number it.
 #![tactic(auto)]
+
 ghost use Rattle.std.specs.Prelude.{◌≡◌, ◌+◌, ◌-◌, ◌*◌, ◌≤◌, ◌<◌, min, length};
 ghost use Rattle.codes.specs.Shape.{rows, missing, WellFormed};
 ghost use Rattle.refusals.specs.Refusals.{refusal};

@@ -1,5 +1,6 @@
 // The calls on a lent stripe. Each takes any numbers and any bytes: what can't be done is refused by its number, with every byte as it was.
 #![tactic(auto)]
+
 ghost use Rattle.std.specs.Prelude.{◌≡◌, true, ℕ, ◌<◌, length};
 ghost use Rattle.std.specs.Int.Count.{ones};
 ghost use Rattle.bits.specs.Bit.{bit};

@@ -1,5 +1,6 @@
 // The library for C: include/zijraduf.h declares these functions. Each hands its arguments to the Rattle call and answers as that does.
 #![tactic(auto)]
+
 ghost use Rattle.std.specs.Prelude.{◌≡◌, length};
 ghost use Rattle.stripe.specs.Encode.{Encodes};
 ghost use Rattle.stripe.specs.Broken.{Counts};

@@ -17,4 +17,4 @@ returns c =
     let given = sym c.if-number-ne0.false ∙ c.stripe_refusal-number.ensures in
     let right = accepted c.args.shape _ (sym given) in
     finding_so c.args.shape c.args.stripe.now _ given
-    (finding_whole c.args.shape right.0 c.args.stripe.now right.1 (λ i. omega (arith, c.shared_slice_known-1.given i)) c.find.result c.find.ensures)
+    (finding_whole c.args.shape right.0 c.args.stripe.now right.1 (λ i. omega (arith, c.type_inv.stripe i)) c.find.result c.find.ensures)

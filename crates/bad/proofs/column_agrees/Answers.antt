@@ -16,12 +16,12 @@ decide-d-requires c = (c.requires.0.formed, refl, refl, refl, λ k l p. column_o
 pub returns-in_default : goal.returns-in_default
 returns-in_default c =
     absurd (column_determined c.args.shape c.requires.0.formed c.args.column c.requires.1 c.args.stripe.now c.args.at c.args.n _
-    c.mark_columns-map.ensures (is_open _ _ _ _ _ _ c.decide-d.ensures c.enum_told-1.given.1))
+    c.mark_columns-map.ensures (is_open _ _ _ _ _ _ c.decide-d.ensures c.in_default.is))
 
 pub survivors_agree-requires : goal.survivors_agree-requires
-survivors_agree-requires c = (c.requires.0, (is_solved _ _ _ _ _ _ c.decide-d.ensures _ _ c.d-1.given.1).tests, length-replicate {A = ℕ} 32768 0)
+survivors_agree-requires c = (c.requires.0, (is_solved _ _ _ _ _ _ c.decide-d.ensures _ _ c.in-Solved.is).tests, length-replicate {A = ℕ} 32768 0)
 
 pub returns : goal.returns
 returns c =
     column_says c.args.shape c.requires.0.formed c.args.column c.requires.1 c.args.stripe.now c.args.at c.args.n _
-    c.mark_columns-map.ensures _ _ _ _ _ (is_solved _ _ _ _ _ _ c.decide-d.ensures _ _ c.d-1.given.1) _ c.survivors_agree.ensures.0
+    c.mark_columns-map.ensures _ _ _ _ _ (is_solved _ _ _ _ _ _ c.decide-d.ensures _ _ c.in-Solved.is) _ c.survivors_agree.ensures.0

@@ -1,6 +1,5 @@
 -- `codes::takes_shared` meets its contract. All equations after the rows, where some share.
 use mathlib.Core.Path.{sym, ◌∙◌}
-use borrow.Author.Tests.{not-true, not-false}
 use Rattle.codes.proofs.Shared.{unshared_takes, shared_takes}
 use Rattle.codes.proofs.takes_shared.Goals as goal
 

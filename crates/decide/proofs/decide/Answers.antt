@@ -35,13 +35,12 @@ pub gather-requires : goal.gather-requires
 gather-requires c =
     let few : c.list_lost-u.result ≤ equations c.args.shape = omega (arith, c.equation_count-n.ensures, c.if-n-u.false) in
     let few : c.list_lost-u.result ≤ equations c.args.shape = omega (arith, c.equation_count-n.ensures, c.if-n-u.false) in
-    let few-in : c.list_lost-u.result ≤ 64 = omega (arith, few, small_equations c.args.shape c.requires.0) in
-    (
+    let few-in : c.list_lost-u.result ≤ 64 = omega (arith, few, small_equations c.args.shape c.requires.0) in (
       few-in,
       c.eliminate-e.ensures.long_chosen,
       c.eliminate-e.ensures.long_sources,
       c.requires.2,
-      chosen_small _ c.requires.0 _ c.requires.4 _ _ c.list_lost-u.ensures (few) _ c.hold_lost.ensures _ _ _ _ c.equation_count-n.ensures c.eliminate-e.ensures _ c.e-1.given.1,
+      chosen_small _ c.requires.0 _ c.requires.4 _ _ c.list_lost-u.ensures (few) _ c.hold_lost.ensures _ _ _ _ c.equation_count-n.ensures c.eliminate-e.ensures _ c.in-Passed.is,
     )
 
 pub list_members-v-requires : goal.list_members-v-requires
@@ -55,10 +54,10 @@ gather-requires-in-Passed c =
 pub returns-in-Stopped : goal.returns-in-Stopped
 returns-in-Stopped c =
     let few : c.list_lost-u.result ≤ equations c.args.shape = omega (arith, c.equation_count-n.ensures, c.if-n-u.false) in
-    decision_open _ c.requires.0 _ c.requires.4 _ _ c.list_lost-u.ensures (few) _ c.hold_lost.ensures _ _ _ _ c.equation_count-n.ensures c.eliminate-e.ensures c.enum_told-1.given.1
+    decision_open _ c.requires.0 _ c.requires.4 _ _ c.list_lost-u.ensures (few) _ c.hold_lost.ensures _ _ _ _ c.equation_count-n.ensures c.eliminate-e.ensures c.in-Stopped.is
 
 pub returns-in-Passed : goal.returns-in-Passed
 returns-in-Passed c =
     let few : c.list_lost-u.result ≤ equations c.args.shape = omega (arith, c.equation_count-n.ensures, c.if-n-u.false) in
-    decision_solved _ c.requires.0 _ c.requires.4 _ _ c.list_lost-u.ensures (few) _ c.hold_lost.ensures _ _ _ _ c.equation_count-n.ensures c.eliminate-e.ensures _ c.e-1.given.1 _
+    decision_solved _ c.requires.0 _ c.requires.4 _ _ c.list_lost-u.ensures (few) _ c.hold_lost.ensures _ _ _ _ c.equation_count-n.ensures c.eliminate-e.ensures _ c.in-Passed.is _
     c.gather.ensures _ _ _ c.list_members-v.ensures c.gather-in-Passed.ensures

@@ -2,7 +2,7 @@
 use Prim.Native.Nat.{ℕ, ◌-◌, ◌<◌}
 use lib.ListN.{get_or}
 use Rattle.codes.specs.Shape.{cells}
-use Rattle.decide.proofs.Lists.{rows_none, rows_more, rows_all, row_in, column_in, held_at}
+use Rattle.decide.proofs.Lists.{rows_none, rows_more, rows_all, rows_some, row_in, column_in, held_at}
 use native.Mathlib.Omega.{arith}
 use Rattle.decide.proofs.hold_lost.Goals as goal
 
@@ -12,6 +12,14 @@ listed_at c = get_or c.before.before.before.before.args.listed.now c.before.befo
 
 pub loop-k-init : goal.loop-k-init
 loop-k-init c = (omega arith, rows_none _ _ _ c.requires.4 c.requires.5)
+
+pub nonzero_rem-c : goal.nonzero_rem-c
+nonzero_rem-c c =
+    let listed_in : listed_at c < cells c.args.shape = c.requires.2 c.loop-k.k c.loop-k-test.true in
+    rows_some c.args.shape c.requires.0 (listed_at c) _ (listed_in) c.row_count-height.ensures
+
+pub nonzero_div-c : goal.nonzero_div-c
+nonzero_div-c c = rem-holders-of c
 
 pub holders_of-holders-requires : goal.holders_of-holders-requires
 holders_of-holders-requires c =
@@ -24,8 +32,7 @@ add_to-requires c = c.loop-k.invariant.1.long
 
 pub loop-k-preserved : goal.loop-k-preserved
 loop-k-preserved c =
-    let listed_in : listed_at c < cells c.args.shape = c.requires.2 c.loop-k.k c.loop-k-test.true in
-    (
+    let listed_in : listed_at c < cells c.args.shape = c.requires.2 c.loop-k.k c.loop-k-test.true in (
       omega arith,
       rows_more c.args.shape c.args.listed.now _ _ c.requires.0 _
           (held_at c.args.shape c.requires.0 (listed_at c) _ (listed_in) c.row_count-height.ensures _ c.holders_of-holders.ensures)

@@ -36,8 +36,7 @@ overflow_add-u c =
 
 pub loop-c-preserved : goal.loop-c-preserved
 loop-c-preserved c =
-    let turn = c.loop-c in
-    (
+    let turn = c.loop-c in (
       omega arith,
       ⊎_elim (λ w. let other = w.1.left in let now = w.3 in let low = turn.invariant.1 in omega (arith, other, now, low)) (λ w. let now = w.2 in let low = turn.invariant.1 in omega (arith, now, low)) c.if-map-c.branch,
       ⊎_elim

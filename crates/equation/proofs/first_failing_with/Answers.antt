@@ -27,10 +27,10 @@ pub returns-then-failing : goal.returns-then-failing
 returns-then-failing c =
     let failing-is : let a = c.args in c.if-takes_shared.failing ≡ fails_in a.shape a.stripe.now c.loop-q.q a.at a.n = ⊎_elim (λ w. w.2 ∙ w.1.ensures) (λ w. w.2 ∙ w.1.ensures) c.if-takes_shared.branch in
     record {
-  most = omega (arith, c.equation_count-count.ensures);
-  passes = λ l. sym (failing-is) ∙ c.if-failing.true;
-  before = c.loop-q.invariant.1;
-}
+      most = omega (arith, c.equation_count-count.ensures);
+      passes = λ l. sym (failing-is) ∙ c.if-failing.true;
+      before = c.loop-q.invariant.1;
+    }
 
 pub loop-q-preserved : goal.loop-q-preserved
 loop-q-preserved c =
@@ -41,7 +41,7 @@ loop-q-preserved c =
 pub returns : goal.returns
 returns c =
     record {
-  most = omega (arith, c.equation_count-count.ensures);
-  passes = λ l. absurd (omega (arith, c.equation_count-count.ensures));
-  before = λ k l. c.loop-q.invariant.1 k (omega arith);
-}
+      most = omega (arith, c.equation_count-count.ensures);
+      passes = λ l. absurd (omega (arith, c.equation_count-count.ensures));
+      before = λ k l. c.loop-q.invariant.1 k (omega arith);
+    }

@@ -8,11 +8,10 @@ pub slice_bounds-add_shared-end : goal.slice_bounds-add_shared-end
 slice_bounds-add_shared-end c = sym (listed_long c.args.shape c.args.stripe.now c.args.at c.args.n c.requires.0 _ _ _ c.shared_cells-count.ensures)
 
 pub add_shared-requires : goal.add_shared-requires
-add_shared-requires c =
-    (
-      listed_inside c.args.shape c.args.stripe.now c.args.at c.args.n c.requires.0 _ _ _ c.shared_cells-count.ensures,
-      omega (arith, c.requires.2),
-    )
+add_shared-requires c = (
+  listed_inside c.args.shape c.args.stripe.now c.args.at c.args.n c.requires.0 _ _ _ c.shared_cells-count.ensures,
+  omega (arith, c.requires.2),
+)
 
 pub returns : goal.returns
 returns c =

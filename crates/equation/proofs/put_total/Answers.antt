@@ -1,7 +1,6 @@
 -- `equation::put_total` meets its contract. What the equation has by itself is put first; then what it takes in is added.
 use mathlib.Core.Path.{sym, ◌∙◌}
 use native.Mathlib.Omega.{arith}
-use borrow.Author.Tests.{not-true, not-false}
 use Rattle.codes.proofs.Shared.{takes_shares}
 use Rattle.equation.proofs.Windows.{total_plain, total_shared}
 use Rattle.equation.proofs.put_total.Goals as goal

@@ -1,7 +1,6 @@
 -- `equation::set_parity` meets its contract. The equation's own cells are summed first; then what it takes in is added.
 use mathlib.Core.Path.{sym, ◌∙◌}
 use native.Mathlib.Omega.{arith}
-use borrow.Author.Tests.{not-true, not-false}
 use Rattle.codes.specs.Encoded.{parity_cell}
 use Rattle.codes.proofs.Ordered.{ordered}
 use Rattle.codes.proofs.Geometry.{place_inside, parity_there}
@@ -17,11 +16,10 @@ pub overflow_add-to : goal.overflow_add-to
 overflow_add-to c = omega (arith, c.parity_place.ensures, parity_small c.args.shape c.requires.0.formed c.args.q c.requires.1, c.requires.0.ends, c.requires.0.formed.cell_high)
 
 pub add_shared-requires : goal.add_shared-requires
-add_shared-requires c =
-    (
-      omega (arith, c.parity_place.ensures, place_inside c.args.shape c.requires.0.formed (parity_cell c.args.shape c.args.q) ((ordered c.args.shape c.requires.0.formed).inside c.args.q c.requires.1) (parity_there c.args.shape c.requires.0.formed c.args.q c.requires.1), c.set_own-zero.ensures.0.long, c.requires.0.long, c.requires.0.ends),
-      omega (arith, c.requires.2.long (takes_shares c.args.shape c.args.q (sym c.takes_shared.ensures ∙ c.if-not-takes_shared.false))),
-    )
+add_shared-requires c = (
+  omega (arith, c.parity_place.ensures, place_inside c.args.shape c.requires.0.formed (parity_cell c.args.shape c.args.q) ((ordered c.args.shape c.requires.0.formed).inside c.args.q c.requires.1) (parity_there c.args.shape c.requires.0.formed c.args.q c.requires.1), c.set_own-zero.ensures.0.long, c.requires.0.long, c.requires.0.ends),
+  omega (arith, c.requires.2.long (takes_shares c.args.shape c.args.q (sym c.takes_shared.ensures ∙ c.if-not-takes_shared.false))),
+)
 
 pub returns : goal.returns
 returns c =

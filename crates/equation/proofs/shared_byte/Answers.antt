@@ -3,7 +3,6 @@ use mathlib.Core.Path.{refl, sym, ◌∙◌}
 use Prim.Native.Nat.{◌+◌}
 use native.Mathlib.Omega.{arith}
 use lib.ListN.{length}
-use borrow.Author.Tests.{not-true, not-false}
 use Rattle.xor.proofs.Cases.{clash}
 use Rattle.xor.proofs.Runs.{shorter}
 use Rattle.equation.proofs.Windows.{whole, listed_long, listed_inside, listed_sum}

@@ -11,7 +11,7 @@ use Rattle.format.proofs.has_field.Goals as goal
 pub returns-in-There : goal.returns-in-There
 returns-in-There c =
     let a = c.args in
-    let found = (subst (FindsField _ _ _ _) c.n-1.given.1 c.find_field.ensures).0 in
+    let found = (subst (FindsField _ _ _ _) c.in-There.is c.find_field.ensures).0 in
     record {
       there = λ t. subst (λ (n : ℕ). FieldAt a.input.now a.at a.tag n) (eqb-true _ a.bytes t) found;
       none = λ t f. eqb-false _ a.bytes t (one_length _ _ _ _ _ found f);
@@ -20,6 +20,6 @@ returns-in-There c =
 pub returns-in-Missing : goal.returns-in-Missing
 returns-in-Missing c =
     record {
-  there = λ t. clash t refl;
-  none = λ _. subst (FindsField _ _ _ _) c.enum_told-1.given.1 c.find_field.ensures _ (omega arith);
-}
+      there = λ t. clash t refl;
+      none = λ _. subst (FindsField _ _ _ _) c.in-Missing.is c.find_field.ensures _ (omega arith);
+    }

@@ -1,6 +1,5 @@
 -- `format::read_numbers` meets its contract. Fields 01 and 02 have one byte, so field 03 or what follows starts at the ninth.
 use native.Mathlib.Omega.{arith}
-use borrow.Author.Tests.{not-true, not-false}
 use Rattle.format.specs.Places.{FieldAt}
 use Rattle.format.proofs.Reading.{code_lies, p_lies, begins_given, begins_absent}
 use Rattle.format.proofs.read_numbers.Goals as goal

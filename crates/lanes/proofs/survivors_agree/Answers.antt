@@ -1,7 +1,6 @@
 -- `lanes::survivors_agree` meets its contract. The loop's invariant: the first `done` bytes from `at` on pass.
 use Prim.Native.Nat.{◌-◌}
 use Rattle.lanes.proofs.Lanes.{passes_none, passes_more, passes_not, passes_all}
-use borrow.Author.Tests.{not-true, not-false}
 use native.Mathlib.Omega.{arith}
 use Rattle.lanes.proofs.survivors_agree.Goals as goal
 

@@ -1,7 +1,6 @@
 -- `refusals::cells_refusal` meets its contract. Each return gives the first refusal in order, by the tests before it.
 use mathlib.Core.Path.{◌≡◌, sym, ◌∙◌}
 use native.Mathlib.Omega.{arith}
-use borrow.Author.Tests.{not-true, not-false}
 use Rattle.refusals.specs.Refusals.{refusal, stripe_faults}
 use Rattle.refusals.proofs.Order.{hit, miss, right}
 use Rattle.refusals.proofs.Refused.{accepted, cells_after, some_out, none_out}

@@ -25,15 +25,13 @@ pub holding-requires : goal.holding-requires
 holding-requires c = (c.loop-k.invariant.long_rows, omega (arith, c.requires.4), omega (arith, c.requires.3))
 
 pub spread-requires : goal.spread-requires
-spread-requires c =
-    (
+spread-requires c = (
   c.loop-k.invariant.long_rows,
   let most = c.find_equation-q.ensures.most in omega arith,
 )
 
 pub spread-requires-in-loop-k : goal.spread-requires-in-loop-k
-spread-requires-in-loop-k c =
-    (
+spread-requires-in-loop-k c = (
   c.loop-k.invariant.long_sources,
   let most = c.find_equation-q.ensures.most in omega arith,
 )

@@ -3,7 +3,6 @@ use mathlib.Core.Path.{sym, ◌∙◌}
 use Prim.Native.Nat.{ℕ}
 use native.Mathlib.Omega.{arith}
 use lib.ListN.{length-replicate}
-use borrow.Author.Tests.{not-true, not-false}
 use Rattle.equation.proofs.Windows.{whole, new_zeros, unshared}
 use Rattle.stripe.proofs.count_broken.Goals as goal
 

@@ -9,7 +9,7 @@ set_parities-requires c = accepted _ _ (sym c.stripe_refusal-refusal.ensures ∙
 pub returns : goal.returns
 returns c =
     record {
-  number = sym c.if-refusal-ne0.false ∙ c.stripe_refusal-refusal.ensures;
-  refused = λ n. absurd (n refl);
-  done = λ z. c.set_parities.ensures;
-}
+      number = sym c.if-refusal-ne0.false ∙ c.stripe_refusal-refusal.ensures;
+      refused = λ n. absurd (n refl);
+      done = λ z. c.set_parities.ensures;
+    }

@@ -10,12 +10,11 @@ pub loop-q-init : goal.loop-q-init
 loop-q-init c = (omega arith, settled_none _ _)
 
 pub set_parity-requires : goal.set_parity-requires
-set_parity-requires c =
-    (
-      whole _ _ c.requires.0 (c.loop-q.invariant.1.long ∙ c.requires.1),
-      omega (arith, c.equation_count-n.ensures),
-      settled_shares c.args.shape c.requires.0 _ _ _ (omega (arith, c.equation_count-n.ensures)) c.loop-q.invariant.1 c.args.shared.now c.requires.2,
-    )
+set_parity-requires c = (
+  whole _ _ c.requires.0 (c.loop-q.invariant.1.long ∙ c.requires.1),
+  omega (arith, c.equation_count-n.ensures),
+  settled_shares c.args.shape c.requires.0 _ _ _ (omega (arith, c.equation_count-n.ensures)) c.loop-q.invariant.1 c.args.shared.now c.requires.2,
+)
 
 pub loop-q-preserved : goal.loop-q-preserved
 loop-q-preserved c = (omega arith, settled_more _ c.requires.0 _ _ _ _ (omega (arith, c.equation_count-n.ensures)) c.loop-q.invariant.1 c.set_parity.ensures.0)

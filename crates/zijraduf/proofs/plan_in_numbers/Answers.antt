@@ -4,7 +4,7 @@ use Rattle.zijraduf.specs.Export.{plan_in_numbers}
 use Rattle.zijraduf.proofs.plan_in_numbers.Goals as goal
 
 pub returns-in-Plan : goal.returns-in-Plan
-returns-in-Plan c = sym (ap plan_in_numbers c.answer-1.given.1)
+returns-in-Plan c = sym (ap plan_in_numbers c.in-Plan.is)
 
 pub returns-in-Refused : goal.returns-in-Refused
-returns-in-Refused c = sym (ap plan_in_numbers c.answer-in-Refused-1.given.1)
+returns-in-Refused c = sym (ap plan_in_numbers c.in-Refused.is)

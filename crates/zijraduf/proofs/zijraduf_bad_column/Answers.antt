@@ -4,13 +4,13 @@ use Rattle.zijraduf.proofs.Export.{in_numbers}
 use Rattle.zijraduf.proofs.zijraduf_bad_column.Goals as goal
 
 pub returns-in-Clean : goal.returns-in-Clean
-returns-in-Clean c = record { shape = c.shape_from.result; is = c.shape_from.ensures; so = in_numbers _ _ _ Clean c.bad_column.ensures c.enum_told-1.given.1 }
+returns-in-Clean c = record { shape = c.shape_from.result; is = c.shape_from.ensures; so = in_numbers _ _ _ Clean c.bad_column.ensures c.in-Clean.is }
 
 pub returns-in-Column : goal.returns-in-Column
-returns-in-Column c = record { shape = c.shape_from.result; is = c.shape_from.ensures; so = in_numbers _ _ _ (Column _) c.bad_column.ensures c.column-1.given.1 }
+returns-in-Column c = record { shape = c.shape_from.result; is = c.shape_from.ensures; so = in_numbers _ _ _ (Column _) c.bad_column.ensures c.in-Column.is }
 
 pub returns-in-Unexplained : goal.returns-in-Unexplained
-returns-in-Unexplained c = record { shape = c.shape_from.result; is = c.shape_from.ensures; so = in_numbers _ _ _ Unexplained c.bad_column.ensures c.enum_told-in-Unexplained-1.given.1 }
+returns-in-Unexplained c = record { shape = c.shape_from.result; is = c.shape_from.ensures; so = in_numbers _ _ _ Unexplained c.bad_column.ensures c.in-Unexplained.is }
 
 pub returns-in-Refused : goal.returns-in-Refused
-returns-in-Refused c = record { shape = c.shape_from.result; is = c.shape_from.ensures; so = in_numbers _ _ _ (Refused _) c.bad_column.ensures c.refusal-1.given.1 }
+returns-in-Refused c = record { shape = c.shape_from.result; is = c.shape_from.ensures; so = in_numbers _ _ _ (Refused _) c.bad_column.ensures c.in-Refused.is }

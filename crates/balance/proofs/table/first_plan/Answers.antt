@@ -6,23 +6,23 @@ use Rattle.balance.proofs.table.first_plan.Goals as goal
 
 pub returns-in-3 : goal.returns-in-3
 unfolding plans_before
-returns-in-3 c = starts_at_lem c.in-3.keys1 refl
+returns-in-3 c = starts_at_lem c.in-3.is refl
 
 pub returns-in-7 : goal.returns-in-7
 unfolding plans_before
-returns-in-7 c = starts_at_lem c.in-7.keys2 refl
+returns-in-7 c = starts_at_lem c.in-7.is refl
 
 pub returns-in-11 : goal.returns-in-11
 unfolding plans_before
-returns-in-11 c = starts_at_lem c.in-11.keys3 refl
+returns-in-11 c = starts_at_lem c.in-11.is refl
 
 pub returns-in-19 : goal.returns-in-19
 unfolding plans_before
-returns-in-19 c = starts_at_lem c.in-19.keys4 refl
+returns-in-19 c = starts_at_lem c.in-19.is refl
 
 pub returns-in-23 : goal.returns-in-23
 unfolding plans_before
-returns-in-23 c = starts_at_lem c.in-23.keys5 refl
+returns-in-23 c = starts_at_lem c.in-23.is refl
 
 pub returns-in_default : goal.returns-in_default
 returns-in_default c = let rest = c.in_default.rest in starts_last rest.0.0.0.0.1 rest.0.0.0.1 rest.0.0.1 rest.0.1 rest.1

@@ -8,7 +8,7 @@ pub overflow_sub-result : goal.overflow_sub-result
 overflow_sub-result c = omega (arith, low c.args.shape c.requires)
 
 pub returns-in-Full : goal.returns-in-Full
-returns-in-Full c = omega (arith, full_missing c.args.shape c.enum_told-1.given.1)
+returns-in-Full c = omega (arith, full_missing c.args.shape c.in-Full.is)
 
 pub returns-in-Data : goal.returns-in-Data
-returns-in-Data c = omega (arith, (data_known c.args.shape c.requires _ c.width-1.given.1).0)
+returns-in-Data c = omega (arith, (data_known c.args.shape c.requires _ c.in-Data.is).0)

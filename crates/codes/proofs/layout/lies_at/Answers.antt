@@ -7,23 +7,23 @@ use Rattle.codes.proofs.Geometry.{there_cases, lies_before, lies_after, lies_all
 use Rattle.codes.proofs.layout.lies_at.Goals as goal
 
 pub returns-in_default : goal.returns-in_default
-returns-in_default c = sym (lies_all c.args.shape (sym (full_missing c.args.shape c.enum_told-1.given.1)) c.args.j)
+returns-in_default c = sym (lies_all c.args.shape (sym (full_missing c.args.shape c.in_default.is)) c.args.j)
 
 pub returns-then-j-m : goal.returns-then-j-m
-returns-then-j-m c = sym (lies_before c.args.shape c.args.j (omega (arith, (data_known c.args.shape c.requires.0 _ c.width-1.given.1).0, c.if-j-m.true)))
+returns-then-j-m c = sym (lies_before c.args.shape c.args.j (omega (arith, (data_known c.args.shape c.requires.0 _ c.in-Data.is).0, c.if-j-m.true)))
 
 pub overflow_sub-result : goal.overflow_sub-result
 overflow_sub-result c = omega (arith, low c.args.shape c.requires.0)
 
 pub overflow_sub-result-2 : goal.overflow_sub-result-2
-overflow_sub-result-2 c = omega (arith, (data_known c.args.shape c.requires.0 _ c.width-1.given.1).0)
+overflow_sub-result-2 c = omega (arith, (data_known c.args.shape c.requires.0 _ c.in-Data.is).0)
 
 pub overflow_sub-result-3 : goal.overflow_sub-result-3
 overflow_sub-result-3 c =
-    let k = (data_known c.args.shape c.requires.0 _ c.width-1.given.1).0 in
+    let k = (data_known c.args.shape c.requires.0 _ c.in-Data.is).0 in
     there_cases c.args.shape c.args.j c.requires.2 (λ a. absurd (omega (arith, k, c.if-j-m.false))) (λ a. omega (arith, k))
 
 pub returns : goal.returns
 returns c =
-    let k = (data_known c.args.shape c.requires.0 _ c.width-1.given.1).0 in
+    let k = (data_known c.args.shape c.requires.0 _ c.in-Data.is).0 in
     omega (arith, k, lies_after c.args.shape c.args.j (omega (arith, k, c.if-j-m.false)))
