@@ -1,12 +1,12 @@
 -- `equation::first_failing_with` meets its contract. The loop's invariant: none of the first q equations fails in the window.
 use mathlib.Core.Path.{◌≡◌, sym, ap, ◌∙◌}
-use mathlib.Core.Logic.{⊎_elim}
 use mathlib.Core.Bool.{false}
 use Prim.Native.Nat.{ℕ, ◌-◌}
 use native.Mathlib.Omega.{arith}
 use Rattle.equation.specs.Window.{fails_in}
 use Rattle.xor.proofs.Cases.{by_equal}
 use Rattle.equation.proofs.first_failing_with.Goals as goal
+use Rattle.equation.proofs.first_failing_with.Goals.{then-takes_shared, else-takes_shared}
 
 pub equation_count-count-requires : goal.equation_count-count-requires
 equation_count-count-requires c = c.requires.0.formed
@@ -25,7 +25,7 @@ fails-failing-requires c = (c.requires.0, omega (arith, c.equation_count-count.e
 
 pub returns-then-failing : goal.returns-then-failing
 returns-then-failing c =
-    let failing-is : let a = c.args in c.if-takes_shared.failing ≡ fails_in a.shape a.stripe.now c.loop-q.q a.at a.n = ⊎_elim (λ w. w.2 ∙ w.1.ensures) (λ w. w.2 ∙ w.1.ensures) c.if-takes_shared.branch in
+    let failing-is : let a = c.args in c.if-takes_shared.failing ≡ fails_in a.shape a.stripe.now c.loop-q.q a.at a.n = elim c.if-takes_shared.branch [ then-takes_shared w ↦ w.failing-is ∙ w.fails_with-failing.ensures | else-takes_shared w ↦ w.failing-is ∙ w.fails-failing.ensures ] in
     record {
       most = omega (arith, c.equation_count-count.ensures);
       passes = λ l. sym (failing-is) ∙ c.if-failing.true;
@@ -34,7 +34,7 @@ returns-then-failing c =
 
 pub loop-q-preserved : goal.loop-q-preserved
 loop-q-preserved c =
-    let failing-is : let a = c.args in c.if-takes_shared.failing ≡ fails_in a.shape a.stripe.now c.loop-q.q a.at a.n = ⊎_elim (λ w. w.2 ∙ w.1.ensures) (λ w. w.2 ∙ w.1.ensures) c.if-takes_shared.branch in
+    let failing-is : let a = c.args in c.if-takes_shared.failing ≡ fails_in a.shape a.stripe.now c.loop-q.q a.at a.n = elim c.if-takes_shared.branch [ then-takes_shared w ↦ w.failing-is ∙ w.fails_with-failing.ensures | else-takes_shared w ↦ w.failing-is ∙ w.fails-failing.ensures ] in
     let a = c.args in
     (omega arith, λ k l. by_equal k _ (λ e. ap (λ (r : ℕ). fails_in a.shape a.stripe.now r a.at a.n) e ∙ sym (failing-is) ∙ c.if-failing.false) (λ n. c.loop-q.invariant.1 k (omega arith)))
 

@@ -15,14 +15,14 @@ returns-then-shape-gt4 c = code_given c.args.shape (miss (ne_eqb _ 0 c.if-shape-
 pub returns-then-not-is_listed : goal.returns-then-not-is_listed
 returns-then-not-is_listed c =
     code_given c.args.shape
-    (miss (ne_eqb _ 0 c.if-shape-eq0.false) (miss (le-ltb 4 _ c.if-shape-gt4.false) (hit (ap not (sym c.is_listed.ensures) ∙ c.if-not-is_listed.true))))
+    (miss (ne_eqb _ 0 c.if-shape-eq0.false) (miss (le-ltb 4 _ c.if-shape-gt4.false) (hit (ap not (sym c.is_listed.ensures ∙ c.if-not-is_listed.true)))))
 
 pub returns-then-data_wrong : goal.returns-then-data_wrong
 returns-then-data_wrong c =
     code_given c.args.shape
-    (miss (ne_eqb _ 0 c.if-shape-eq0.false) (miss (le-ltb 4 _ c.if-shape-gt4.false) (miss (ap not (sym c.is_listed.ensures) ∙ c.if-not-is_listed.false) (hit (sym c.data_wrong.ensures ∙ c.if-data_wrong.true)))))
+    (miss (ne_eqb _ 0 c.if-shape-eq0.false) (miss (le-ltb 4 _ c.if-shape-gt4.false) (miss (ap not (sym c.is_listed.ensures ∙ c.if-not-is_listed.false)) (hit (sym c.data_wrong.ensures ∙ c.if-data_wrong.true)))))
 
 pub returns : goal.returns
 returns c =
     code_given c.args.shape
-    (miss (ne_eqb _ 0 c.if-shape-eq0.false) (miss (le-ltb 4 _ c.if-shape-gt4.false) (miss (ap not (sym c.is_listed.ensures) ∙ c.if-not-is_listed.false) (miss (sym c.data_wrong.ensures ∙ c.if-data_wrong.false) right))))
+    (miss (ne_eqb _ 0 c.if-shape-eq0.false) (miss (le-ltb 4 _ c.if-shape-gt4.false) (miss (ap not (sym c.is_listed.ensures ∙ c.if-not-is_listed.false)) (miss (sym c.data_wrong.ensures ∙ c.if-data_wrong.false) right))))

@@ -2,6 +2,7 @@
 use mathlib.Core.Path.{◌≡◌, sym, ap, ◌∙◌}
 use mathlib.Core.List.{[], ◌∷◌}
 use mathlib.Core.Bool.{not}
+use Prim.Native.Nat.{ℕ}
 use native.Mathlib.Omega.{arith}
 use lib.Dec.{eqb}
 use borrow.Author.Tests.{eq-eqb, ne_eqb}
@@ -50,23 +51,23 @@ parity_at-requires c =
 pub returns-then-parity_at : goal.returns-then-parity_at
 returns-then-parity_at c =
     let right_of : refusal (stripe_faults c.args.shape c.args.bytes) ≡ 0 = sym c.stripe_refusal-refusal.ensures ∙ c.if-refusal-ne0.false in
-    let left-tests : let a = c.args in Gives (fault 7 (is_parity a.shape (cell_at a.shape a.row a.column)) ∷ fault 8 (not (eqb a.new a.shape.cell)) ∷ []) r → r ≡ refusal (write_faults a.shape a.bytes a.row a.column a.new) = λ g. let a = c.args in
+    let left-tests : (r : ℕ) → let a = c.args in Gives (fault 7 (is_parity a.shape (cell_at a.shape a.row a.column)) ∷ fault 8 (not (eqb a.new a.shape.cell)) ∷ []) r → r ≡ refusal (write_faults a.shape a.bytes a.row a.column a.new) = λ r g. let a = c.args in
     (write_after a.shape a.bytes a.row a.column a.new).own (right_of)
     (miss (inside c.row_count.ensures c.if-row_count-row.false) (miss (inside c.disk_count.ensures c.if-disk_count-column.false) g)) in
-    left-tests (hit (sym c.parity_at.ensures ∙ c.if-parity_at.true))
+    left-tests _ (hit (sym c.parity_at.ensures ∙ c.if-parity_at.true))
 
 pub returns-then-new-shape : goal.returns-then-new-shape
 returns-then-new-shape c =
     let right_of : refusal (stripe_faults c.args.shape c.args.bytes) ≡ 0 = sym c.stripe_refusal-refusal.ensures ∙ c.if-refusal-ne0.false in
-    let left-tests : let a = c.args in Gives (fault 7 (is_parity a.shape (cell_at a.shape a.row a.column)) ∷ fault 8 (not (eqb a.new a.shape.cell)) ∷ []) r → r ≡ refusal (write_faults a.shape a.bytes a.row a.column a.new) = λ g. let a = c.args in
+    let left-tests : (r : ℕ) → let a = c.args in Gives (fault 7 (is_parity a.shape (cell_at a.shape a.row a.column)) ∷ fault 8 (not (eqb a.new a.shape.cell)) ∷ []) r → r ≡ refusal (write_faults a.shape a.bytes a.row a.column a.new) = λ r g. let a = c.args in
     (write_after a.shape a.bytes a.row a.column a.new).own (right_of)
     (miss (inside c.row_count.ensures c.if-row_count-row.false) (miss (inside c.disk_count.ensures c.if-disk_count-column.false) g)) in
-    left-tests (miss (sym c.parity_at.ensures ∙ c.if-parity_at.false) (hit (ap not (ne_eqb _ _ c.if-new-shape.true))))
+    left-tests _ (miss (sym c.parity_at.ensures ∙ c.if-parity_at.false) (hit (ap not (ne_eqb _ _ c.if-new-shape.true))))
 
 pub returns : goal.returns
 returns c =
     let right_of : refusal (stripe_faults c.args.shape c.args.bytes) ≡ 0 = sym c.stripe_refusal-refusal.ensures ∙ c.if-refusal-ne0.false in
-    let left-tests : let a = c.args in Gives (fault 7 (is_parity a.shape (cell_at a.shape a.row a.column)) ∷ fault 8 (not (eqb a.new a.shape.cell)) ∷ []) r → r ≡ refusal (write_faults a.shape a.bytes a.row a.column a.new) = λ g. let a = c.args in
+    let left-tests : (r : ℕ) → let a = c.args in Gives (fault 7 (is_parity a.shape (cell_at a.shape a.row a.column)) ∷ fault 8 (not (eqb a.new a.shape.cell)) ∷ []) r → r ≡ refusal (write_faults a.shape a.bytes a.row a.column a.new) = λ r g. let a = c.args in
     (write_after a.shape a.bytes a.row a.column a.new).own (right_of)
     (miss (inside c.row_count.ensures c.if-row_count-row.false) (miss (inside c.disk_count.ensures c.if-disk_count-column.false) g)) in
-    left-tests (miss (sym c.parity_at.ensures ∙ c.if-parity_at.false) (miss (ap not (eq-eqb _ _ c.if-new-shape.false)) right))
+    left-tests _ (miss (sym c.parity_at.ensures ∙ c.if-parity_at.false) (miss (ap not (eq-eqb _ _ c.if-new-shape.false)) right))

@@ -33,10 +33,10 @@ returns-then-disk_count-k c =
 pub returns-then-shape-first : goal.returns-then-shape-first
 returns-then-shape-first c =
     let right_of : refusal (spare_faults c.args.shape c.args.bytes c.args.spare) ≡ 0 = sym c.spare_refusal-refusal.ensures ∙ c.if-refusal-ne0.false in
-    let left-tests : let a = c.args in Gives (outside a.first a.shape.p ∷ fault 9 (not (is_accepted a.shape (column_of a.shape a.k) a.plan)) ∷ []) r → r ≡ refusal (run_faults a.shape a.bytes a.spare a.k a.plan a.first) = λ g. let a = c.args in
+    let left-tests : (r : ℕ) → let a = c.args in Gives (outside a.first a.shape.p ∷ fault 9 (not (is_accepted a.shape (column_of a.shape a.k) a.plan)) ∷ []) r → r ≡ refusal (run_faults a.shape a.bytes a.spare a.k a.plan a.first) = λ r g. let a = c.args in
     (run_after a.shape a.bytes a.spare a.k a.plan a.first).own (right_of) (miss (inside c.disk_count.ensures c.if-disk_count-k.false) g) in
     let a = c.args in
-    left-tests (hit (le-leb a.shape.p a.first c.if-shape-first.true))
+    left-tests _ (hit (le-leb a.shape.p a.first c.if-shape-first.true))
 
 pub column_of-requires : goal.column_of-requires
 column_of-requires c =
@@ -57,17 +57,17 @@ is_accepted-requires c =
 pub returns-then-not-is_accepted : goal.returns-then-not-is_accepted
 returns-then-not-is_accepted c =
     let right_of : refusal (spare_faults c.args.shape c.args.bytes c.args.spare) ≡ 0 = sym c.spare_refusal-refusal.ensures ∙ c.if-refusal-ne0.false in
-    let left-tests : let a = c.args in Gives (outside a.first a.shape.p ∷ fault 9 (not (is_accepted a.shape (column_of a.shape a.k) a.plan)) ∷ []) r → r ≡ refusal (run_faults a.shape a.bytes a.spare a.k a.plan a.first) = λ g. let a = c.args in
+    let left-tests : (r : ℕ) → let a = c.args in Gives (outside a.first a.shape.p ∷ fault 9 (not (is_accepted a.shape (column_of a.shape a.k) a.plan)) ∷ []) r → r ≡ refusal (run_faults a.shape a.bytes a.spare a.k a.plan a.first) = λ r g. let a = c.args in
     (run_after a.shape a.bytes a.spare a.k a.plan a.first).own (right_of) (miss (inside c.disk_count.ensures c.if-disk_count-k.false) g) in
     let answer : let a = c.args in c.is_accepted.result ≡ is_accepted a.shape (column_of a.shape a.k) a.plan = let a = c.args in
     c.is_accepted.ensures ∙ ap (λ (j : ℕ). is_accepted a.shape j a.plan) c.column_of.ensures in
-    left-tests (miss (lt-leb _ _ c.if-shape-first.false) (hit (ap not (sym (answer)) ∙ c.if-not-is_accepted.true)))
+    left-tests _ (miss (lt-leb _ _ c.if-shape-first.false) (hit (ap not (sym (answer)) ∙ c.if-not-is_accepted.true)))
 
 pub returns : goal.returns
 returns c =
     let right_of : refusal (spare_faults c.args.shape c.args.bytes c.args.spare) ≡ 0 = sym c.spare_refusal-refusal.ensures ∙ c.if-refusal-ne0.false in
-    let left-tests : let a = c.args in Gives (outside a.first a.shape.p ∷ fault 9 (not (is_accepted a.shape (column_of a.shape a.k) a.plan)) ∷ []) r → r ≡ refusal (run_faults a.shape a.bytes a.spare a.k a.plan a.first) = λ g. let a = c.args in
+    let left-tests : (r : ℕ) → let a = c.args in Gives (outside a.first a.shape.p ∷ fault 9 (not (is_accepted a.shape (column_of a.shape a.k) a.plan)) ∷ []) r → r ≡ refusal (run_faults a.shape a.bytes a.spare a.k a.plan a.first) = λ r g. let a = c.args in
     (run_after a.shape a.bytes a.spare a.k a.plan a.first).own (right_of) (miss (inside c.disk_count.ensures c.if-disk_count-k.false) g) in
     let answer : let a = c.args in c.is_accepted.result ≡ is_accepted a.shape (column_of a.shape a.k) a.plan = let a = c.args in
     c.is_accepted.ensures ∙ ap (λ (j : ℕ). is_accepted a.shape j a.plan) c.column_of.ensures in
-    left-tests (miss (lt-leb _ _ c.if-shape-first.false) (miss (ap not (sym (answer)) ∙ c.if-not-is_accepted.false) right))
+    left-tests _ (miss (lt-leb _ _ c.if-shape-first.false) (miss (ap not (sym (answer)) ∙ c.if-not-is_accepted.false) right))
