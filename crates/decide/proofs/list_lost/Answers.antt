@@ -3,9 +3,9 @@ use Prim.Native.Nat.{◌-◌, ◌<◌}
 use Rattle.codes.proofs.Shapes.{cells_high, small_equations}
 use Rattle.decide.proofs.Lists.{listed_none, listed_over, listed_with, listed_is, listed_end, listed_more}
 use mathlib.Core.Path.{refl, sym}
-use mathlib.Core.Logic.{⊎_elim}
 use native.Mathlib.Omega.{arith}
 use Rattle.decide.proofs.list_lost.Goals as goal
+use Rattle.decide.proofs.list_lost.Goals.{then-map-c+else-u-most, else-map-c}
 
 pub loop-c-init : goal.loop-c-init
 loop-c-init c = (omega arith, omega arith, listed_none _ _ c.requires.1)
@@ -38,11 +38,11 @@ pub loop-c-preserved : goal.loop-c-preserved
 loop-c-preserved c =
     let turn = c.loop-c in (
       omega arith,
-      ⊎_elim (λ w. let other = w.1.left in let now = w.3 in let low = turn.invariant.1 in omega (arith, other, now, low)) (λ w. let now = w.2 in let low = turn.invariant.1 in omega (arith, now, low)) c.if-map-c.branch,
-      ⊎_elim
-          (λ w. listed_is _ _ _ _ _ _ w.2 w.3 (listed_with _ _ _ _ w.0.taken (omega (arith, turn.invariant.1, c.equation_count-most.ensures, small_equations c.args.shape c.requires.0)) turn.invariant.2))
-          (λ w. listed_is _ _ _ _ _ _ w.1 w.2 (listed_over _ _ _ _ w.0.left turn.invariant.2))
-          c.if-map-c.branch,
+      elim c.if-map-c.branch [ then-map-c+else-u-most w ↦ omega arith | else-map-c w ↦ omega arith ],
+      elim c.if-map-c.branch [
+        | then-map-c+else-u-most w ↦ listed_is _ _ _ _ _ _ w.listed-is w.u-is (listed_with _ _ _ _ w.if-map-c.true (omega (arith, turn.invariant.1, c.equation_count-most.ensures, small_equations c.args.shape c.requires.0)) turn.invariant.2)
+        | else-map-c w ↦ listed_is _ _ _ _ _ _ w.listed-is w.u-is (listed_over _ _ _ _ w.if-map-c.false turn.invariant.2)
+      ],
     )
 
 pub returns : goal.returns

@@ -48,8 +48,16 @@ returns-then-j-p c =
 
 pub overflow_cast-result : goal.overflow_cast-result
 overflow_cast-result c =
+    let small : c.args.shape.p ≤ 31 = high c.args.shape c.requires.0.formed in
+    let moved : (c.args.rows * 2 ^ c.args.shape.p) % 2 ^ 64 ≡ c.args.rows * 2 ^ c.args.shape.p = let a = c.args in
+    shl_exact _ a.shape.p 64 (plan_low a.shape a.k a.rows c.requires.0 c.requires.1) (omega (arith, small, last_row a.shape a.k c.requires.0)) in
     let few : column_reads c.args.shape c.args.k c.args.rows c.args.j ≤ most_rows = column_few c.args.shape c.requires.0.formed c.args.k c.args.rows c.args.j in
-    omega (arith, returns-2 c, few)
+    omega (
+      arith,
+      (count_last c.args.shape c.args.k c.args.rows c.requires.0 c.requires.1 c.args.j _ c.requires.2 c.if-j-k.false (moved) _
+          (ap (λ (n : ℕ). n - 1) c.one_bit-all.ensures) c.if-j-p.true),
+      few,
+    )
 
 pub overflow_sub-by_row : goal.overflow_sub-by_row
 overflow_sub-by_row c = omega (arith, low c.args.shape c.requires.0.formed)
@@ -94,10 +102,28 @@ returns c =
 
 pub overflow_cast-result-2 : goal.overflow_cast-result-2
 overflow_cast-result-2 c =
+    let small : c.args.shape.p ≤ 31 = high c.args.shape c.requires.0.formed in
+    let moved : (c.args.rows * 2 ^ c.args.shape.p) % 2 ^ 64 ≡ c.args.rows * 2 ^ c.args.shape.p = let a = c.args in
+    shl_exact _ a.shape.p 64 (plan_low a.shape a.k a.rows c.requires.0 c.requires.1) (omega (arith, small, last_row a.shape a.k c.requires.0)) in
     let few : column_reads c.args.shape c.args.k c.args.rows c.args.j ≤ most_rows = column_few c.args.shape c.requires.0.formed c.args.k c.args.rows c.args.j in
-    omega (arith, returns-3 c, few)
+    let below : c.args.j < c.args.shape.p = omega (arith, last_column c.args.shape c.args.j c.requires.2, c.if-j-p.false) in
+    omega (
+      arith,
+      (count_below c.args.shape c.args.k c.args.rows c.requires.0 c.requires.1 c.args.j _ c.requires.2 c.if-j-k.false (moved) _
+          (below) c.turned-turn.ensures),
+      few,
+    )
 
 pub overflow_add-result : goal.overflow_add-result
 overflow_add-result c =
+    let small : c.args.shape.p ≤ 31 = high c.args.shape c.requires.0.formed in
+    let moved : (c.args.rows * 2 ^ c.args.shape.p) % 2 ^ 64 ≡ c.args.rows * 2 ^ c.args.shape.p = let a = c.args in
+    shl_exact _ a.shape.p 64 (plan_low a.shape a.k a.rows c.requires.0 c.requires.1) (omega (arith, small, last_row a.shape a.k c.requires.0)) in
     let few : column_reads c.args.shape c.args.k c.args.rows c.args.j ≤ most_rows = column_few c.args.shape c.requires.0.formed c.args.k c.args.rows c.args.j in
-    omega (arith, returns-3 c, few)
+    let below : c.args.j < c.args.shape.p = omega (arith, last_column c.args.shape c.args.j c.requires.2, c.if-j-p.false) in
+    omega (
+      arith,
+      (count_below c.args.shape c.args.k c.args.rows c.requires.0 c.requires.1 c.args.j _ c.requires.2 c.if-j-k.false (moved) _
+          (below) c.turned-turn.ensures),
+      few,
+    )

@@ -14,7 +14,7 @@ pub spread-requires : goal.spread-requires
 spread-requires c = (write_from c.args.shape _ c.args.row c.args.column _ _ _ _ c.requires.0 c.requires.1 refl refl, c.dependents_of-set.ensures.below)
 
 pub put_run-requires : goal.put_run-requires
-put_run-requires c = from_fits _ _ _ _ (write_from c.args.shape _ c.args.row c.args.column _ _ c.args.stripe.now c.args.new.now c.requires.0 c.requires.1 refl refl) c.spread.new.1.0 c.spread.ensures.long
+put_run-requires c = from_fits _ _ _ _ (write_from c.args.shape _ c.args.row c.args.column _ _ c.args.stripe.now c.args.new.now c.requires.0 c.requires.1 refl refl) c.spread.new.stripe c.spread.ensures.long
 
 pub returns : goal.returns
 returns c =
@@ -24,5 +24,5 @@ returns c =
       written c.args.shape c.requires.0.formed cell plain set.result set.ensures (cell_inside c.args.shape c.requires.0.formed c.args.row c.args.column c.requires.0.cell.low c.requires.0.cell.right)
           (cell_there_at c.args.shape c.requires.0.formed c.args.row c.args.column c.requires.0.cell.low ∙ c.requires.0.there)
           _ _ c.args.new.now c.args.stripe.now _ _ c.requires.1 c.requires.0.whole c.spread.ensures c.put_run.ensures,
-      depending c.args.shape c.requires.0.formed cell plain set.result set.ensures _ (depend_count c.args.shape c.requires.0.formed cell set.result plain set.type-inv set.ensures ∙ sym c.count_members.ensures),
+      depending c.args.shape c.requires.0.formed cell plain set.result set.ensures _ (depend_count c.args.shape c.requires.0.formed cell set.result plain set.type_inv set.ensures ∙ sym c.count_members.ensures),
     )
