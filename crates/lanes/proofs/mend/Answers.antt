@@ -1,6 +1,6 @@
 -- `lanes::mend` meets its contract. Nothing is filled unless the survivors pass.
 use mathlib.Core.Path.{sym, subst}
-use mathlib.Core.Logic.{inl, inr, ⊎_elim}
+use mathlib.Core.Logic.{inl, inr}
 use Rattle.lanes.specs.Lanes.{Filled}
 use Rattle.equation.proofs.Windows.{whole}
 use Rattle.lanes.proofs.Lanes.{passes_whole, Either, mends_not, mends_done}
@@ -8,6 +8,7 @@ use Prim.Native.Nat.{ℕ}
 use native.Mathlib.Omega.{arith}
 use lib.ListN.{length-replicate}
 use Rattle.lanes.proofs.mend.Goals as goal
+use Rattle.lanes.proofs.mend.Goals.{then-agree, else-agree}
 
 pub survivors_agree-agree-requires : goal.survivors_agree-agree-requires
 survivors_agree-agree-requires c = (whole _ _ c.requires.0 c.requires.1, c.requires.4, length-replicate {A = ℕ} 32768 0)
@@ -24,10 +25,10 @@ fill-requires c =
 
 pub returns-then-agree-2 : goal.returns-then-agree-2
 returns-then-agree-2 c =
-    let came : Either c.args.shape c.args.listed.now c.args.sets.now c.args.lost c.args.checks.now c.args.v c.args.stripe.now c.survivors_agree-agree.result c.if-agree.stripe = ⊎_elim (λ way. inl (way.0.taken, subst (Filled _ _ _ _ 0 _ _) (sym way.7) way.3.ensures)) (λ way. inr (way.0.left, way.1)) c.if-agree.branch in
+    let came : Either c.args.shape c.args.listed.now c.args.sets.now c.args.lost c.args.checks.now c.args.v c.args.stripe.now c.survivors_agree-agree.result c.if-agree.stripe = elim c.if-agree.branch [ then-agree w ↦ inl (w.if-agree.true, subst (Filled _ _ _ _ 0 _ _) (sym w.stripe-is) w.fill.ensures) | else-agree w ↦ inr (w.if-agree.false, w.stripe-is) ] in
     mends_done _ _ _ _ _ _ _ _ _ (passes_whole _ _ _ _ _ c.survivors_agree-agree.ensures.0) (came) c.if-agree-2.true
 
 pub returns-else-agree-2 : goal.returns-else-agree-2
 returns-else-agree-2 c =
-    let came : Either c.args.shape c.args.listed.now c.args.sets.now c.args.lost c.args.checks.now c.args.v c.args.stripe.now c.survivors_agree-agree.result c.if-agree.stripe = ⊎_elim (λ way. inl (way.0.taken, subst (Filled _ _ _ _ 0 _ _) (sym way.7) way.3.ensures)) (λ way. inr (way.0.left, way.1)) c.if-agree.branch in
+    let came : Either c.args.shape c.args.listed.now c.args.sets.now c.args.lost c.args.checks.now c.args.v c.args.stripe.now c.survivors_agree-agree.result c.if-agree.stripe = elim c.if-agree.branch [ then-agree w ↦ inl (w.if-agree.true, subst (Filled _ _ _ _ 0 _ _) (sym w.stripe-is) w.fill.ensures) | else-agree w ↦ inr (w.if-agree.false, w.stripe-is) ] in
     mends_not _ _ _ _ _ _ _ _ _ (passes_whole _ _ _ _ _ c.survivors_agree-agree.ensures.0) (came) c.if-agree-2.false

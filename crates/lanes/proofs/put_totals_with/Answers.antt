@@ -1,12 +1,13 @@
 -- `lanes::put_totals_with` meets its contract. The loop's invariant: the lanes of the first k members are done, and those of them that fail are known.
-use mathlib.Core.Path.{refl, sym, ◌∙◌, subst}
-use mathlib.Core.Logic.{⊎_elim}
+use mathlib.Core.Path.{refl, sym, ap, ◌∙◌, subst}
+use mathlib.Core.Bool.{not}
 use Prim.Native.Nat.{◌+◌, ◌-◌}
 use Rattle.xor.proofs.Runs.{summed_says}
 use Rattle.equation.proofs.Windows.{fails_by}
 use Rattle.lanes.proofs.Lanes.{totals_none, totals_more, totals_all, FailingTo, failing_none, failing_not, failing_more, failing_all}
 use native.Mathlib.Omega.{arith}
 use Rattle.lanes.proofs.put_totals_with.Goals as goal
+use Rattle.lanes.proofs.put_totals_with.Goals.{then-not-put_total, else-not-put_total}
 
 pub list_members-count-requires : goal.list_members-count-requires
 list_members-count-requires c = (refl, omega arith)
@@ -49,8 +50,12 @@ loop-k-preserved c =
     let fails = fails_by a.shape a.stripe.now _ a.at a.n _ (λ i l. refl) total.result (summed_says _ _ _ a.n _ total.result total.ensures) in (
       omega arith,
       totals_more a.shape a.stripe.now a.at a.n _ turn.k _ _ c.requires.0.few turn.invariant.1 total.ensures.put,
-      ⊎_elim (λ w. subst (FailingTo a.shape a.stripe.now a.at a.n _ (turn.k + 1)) (sym w.2) (failing_more a.shape a.stripe.now a.at a.n _ turn.k turn.failing turn.invariant.2 _ w.1.ensures (sym fails ∙ w.0.taken)))
-          (λ w. subst (FailingTo a.shape a.stripe.now a.at a.n _ (turn.k + 1)) (sym w.1) (failing_not a.shape a.stripe.now a.at a.n _ turn.k turn.failing turn.invariant.2 (sym fails ∙ w.0.left))) c.if-not-put_total.branch,
+      elim c.if-not-put_total.branch [
+      | then-not-put_total w ↦ subst (FailingTo a.shape a.stripe.now a.at a.n _ (turn.k + 1)) (sym w.failing-is)
+          (failing_more a.shape a.stripe.now a.at a.n _ turn.k turn.failing turn.invariant.2 _ w.one_bit-failing.ensures (sym fails ∙ ap not w.if-not-put_total.true))
+      | else-not-put_total w ↦ subst (FailingTo a.shape a.stripe.now a.at a.n _ (turn.k + 1)) (sym w.failing-is)
+          (failing_not a.shape a.stripe.now a.at a.n _ turn.k turn.failing turn.invariant.2 (sym fails ∙ ap not w.if-not-put_total.false))
+      ],
     )
 
 pub returns : goal.returns

@@ -61,7 +61,7 @@ returns-then-not-is_accepted c =
     (run_after a.shape a.bytes a.spare a.k a.plan a.first).own (right_of) (miss (inside c.disk_count.ensures c.if-disk_count-k.false) g) in
     let answer : let a = c.args in c.is_accepted.result ≡ is_accepted a.shape (column_of a.shape a.k) a.plan = let a = c.args in
     c.is_accepted.ensures ∙ ap (λ (j : ℕ). is_accepted a.shape j a.plan) c.column_of.ensures in
-    left-tests _ (miss (lt-leb _ _ c.if-shape-first.false) (hit (ap not (sym (answer)) ∙ c.if-not-is_accepted.true)))
+    left-tests _ (miss (lt-leb _ _ c.if-shape-first.false) (hit (ap not (sym answer ∙ c.if-not-is_accepted.true))))
 
 pub returns : goal.returns
 returns c =
@@ -70,4 +70,4 @@ returns c =
     (run_after a.shape a.bytes a.spare a.k a.plan a.first).own (right_of) (miss (inside c.disk_count.ensures c.if-disk_count-k.false) g) in
     let answer : let a = c.args in c.is_accepted.result ≡ is_accepted a.shape (column_of a.shape a.k) a.plan = let a = c.args in
     c.is_accepted.ensures ∙ ap (λ (j : ℕ). is_accepted a.shape j a.plan) c.column_of.ensures in
-    left-tests _ (miss (lt-leb _ _ c.if-shape-first.false) (miss (ap not (sym (answer)) ∙ c.if-not-is_accepted.false) right))
+    left-tests _ (miss (lt-leb _ _ c.if-shape-first.false) (miss (ap not (sym answer ∙ c.if-not-is_accepted.false)) right))
