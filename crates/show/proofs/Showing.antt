@@ -66,7 +66,7 @@ differ e n = absurd (n (ap which e))
 -- ---- the part of the buffer that the answer names
 
 -- a part from byte `at` to byte at + n, in the same block
-pub part_made : (whole : Lent) (at n : ℕ) (answer : Lent) → answer.ptr.0 ≡ whole.ptr.0 → answer.ptr.1 ≡ at + whole.ptr.1
+pub part_made : (whole : Lent) (at n : ℕ) (answer : Lent) → answer.ref_ptr.0 ≡ whole.ref_ptr.0 → answer.ref_ptr.1 ≡ at + whole.ref_ptr.1
     → answer.now ≡ take (at + n - at) (drop at whole.now) → PartOf whole at n answer
 part_made whole at n answer block offset bytes =
     let same : at + n - at ≡ n = omega arith in

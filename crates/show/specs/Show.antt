@@ -15,8 +15,8 @@ Lent = Bor (List ℕ)
 
 -- the answer is that very part of a lent buffer: n bytes from byte `at` on, where they lie in memory
 pub record PartOf (whole : Lent) (at n : ℕ) (answer : Lent) : Type 0 where
-  pub block : answer.ptr.0 ≡ whole.ptr.0
-  pub offset : answer.ptr.1 ≡ whole.ptr.1 + at
+  pub block : answer.ref_ptr.0 ≡ whole.ref_ptr.0
+  pub offset : answer.ref_ptr.1 ≡ whole.ref_ptr.1 + at
   pub bytes : answer.now ≡ take n (drop at whole.now)
 
 -- why a show from a lent stripe and a lent spare is refused; 0 where it is not
@@ -25,7 +25,7 @@ reason s k done row column stripe spare = refusal (show_faults s (length stripe.
 
 -- two parts are the same: they lie at the same place in memory and have the same bytes
 pub record SamePart (a b : Lent) : Type 0 where
-  pub place : a.ptr ≡ b.ptr
+  pub place : a.ref_ptr ≡ b.ref_ptr
   pub bytes : a.now ≡ b.now
 
 -- where in the stripe the cell starts that callers call by a row and a column

@@ -4,6 +4,7 @@ use Rattle.rebuild.proofs.Rebuilding.{decides_mended, decides_clean}
 use mathlib.Core.Path.{refl}
 use Rattle.decide.proofs.Solving.{is_solved, is_open}
 use native.Mathlib.Omega.{arith}
+use borrow.Author.Rules.{rules}
 use Rattle.rebuild.proofs.rebuild_lost.Goals as goal
 
 pub decide-d-requires : goal.decide-d-requires
@@ -18,7 +19,7 @@ clean_or_not-requires c = (c.requires.0, c.requires.1)
 pub returns-then-lost-eq0 : goal.returns-then-lost-eq0
 returns-then-lost-eq0 c =
     decides_clean c.args.shape c.requires.0 _ _ _ _ _ _ (is_solved _ _ _ _ _ _ c.decide-d.ensures _ _ c.in-Solved.is) c.args.stripe.now _ c.requires.1
-    (λ i. omega (arith, c.type_inv.stripe i)) c.if-lost-eq0.true refl _ c.clean_or_not.ensures
+    (search rules) c.if-lost-eq0.true refl _ c.clean_or_not.ensures
 
 pub mend-requires : goal.mend-requires
 mend-requires c =

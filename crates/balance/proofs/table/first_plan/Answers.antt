@@ -1,5 +1,6 @@
 -- `balance::table::first_plan` meets its contract. Each number is where the plans of its prime start.
 use mathlib.Core.Path.{refl}
+use native.Mathlib.Omega.{arith}
 use Rattle.balance.specs.Table.{plans_before}
 use Rattle.balance.proofs.Offered.{starts_at_lem, starts_last}
 use Rattle.balance.proofs.table.first_plan.Goals as goal
@@ -25,4 +26,4 @@ unfolding plans_before
 returns-in-23 c = starts_at_lem c.in-23.is refl
 
 pub returns-in_default : goal.returns-in_default
-returns-in_default c = let rest = c.in_default.rest in starts_last rest.0.0.0.0.1 rest.0.0.0.1 rest.0.0.1 rest.0.1 rest.1
+returns-in_default c = starts_last (λ e. omega arith) (λ e. omega arith) (λ e. omega arith) (λ e. omega arith) (λ e. omega arith)
