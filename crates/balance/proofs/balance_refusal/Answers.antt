@@ -4,7 +4,7 @@ use mathlib.Core.Path.{◌≡◌, sym, ap, ◌∙◌}
 use mathlib.Core.List.{[], ◌∷◌}
 use mathlib.Core.Bool.{false, not}
 use Prim.Native.Nat.{ℕ}
-use borrow.Author.Tests.{le-leb, lt-leb}
+use borrow.Author.Tests.{eq-eqb, ne_eqb, le-leb, lt-leb}
 use lib.Dec.{eqb, ltb}
 use Rattle.codes.specs.declared.Shape.{Shape}
 use Rattle.codes.specs.Shape.{missing}
@@ -46,16 +46,16 @@ pub returns-then-is_short : goal.returns-then-is_short
 returns-then-is_short c = past1 c.args.shape c.args.k (sym c.code_refusal-wrong.ensures ∙ c.if-wrong-ne0.false) (hit (sym c.is_short.ensures ∙ c.if-is_short.true))
 
 pub returns-then-other_code : goal.returns-then-other_code
-returns-then-other_code c = past2 c.args.shape c.args.k (sym c.code_refusal-wrong.ensures ∙ c.if-wrong-ne0.false) (sym c.is_short.ensures ∙ c.if-is_short.false) (hit c.if-other_code.true)
+returns-then-other_code c = past2 c.args.shape c.args.k (sym c.code_refusal-wrong.ensures ∙ c.if-wrong-ne0.false) (sym c.is_short.ensures ∙ c.if-is_short.false) (hit (ap not (ne_eqb _ 1 c.if-other_code.true)))
 
 pub returns-then-other_prime : goal.returns-then-other_prime
-returns-then-other_prime c = past3 c.args.shape c.args.k (sym c.code_refusal-wrong.ensures ∙ c.if-wrong-ne0.false) (sym c.is_short.ensures ∙ c.if-is_short.false) c.if-other_code.false (hit (ap not (sym c.is_offered-other_prime.ensures) ∙ c.if-other_prime.true))
+returns-then-other_prime c = past3 c.args.shape c.args.k (sym c.code_refusal-wrong.ensures ∙ c.if-wrong-ne0.false) (sym c.is_short.ensures ∙ c.if-is_short.false) (ap not (eq-eqb _ 1 c.if-other_code.false)) (hit (ap not (sym c.is_offered-other_prime.ensures ∙ c.if-other_prime.true)))
 
 pub returns-then-size-ne0 : goal.returns-then-size-ne0
-returns-then-size-ne0 c = past4 c.args.shape c.args.k (sym c.code_refusal-wrong.ensures ∙ c.if-wrong-ne0.false) (sym c.is_short.ensures ∙ c.if-is_short.false) c.if-other_code.false (ap not (sym c.is_offered-other_prime.ensures) ∙ c.if-other_prime.false) (size_decides c.args.shape c.args.k c.size_refusal-size.ensures c.if-size-ne0.true)
+returns-then-size-ne0 c = past4 c.args.shape c.args.k (sym c.code_refusal-wrong.ensures ∙ c.if-wrong-ne0.false) (sym c.is_short.ensures ∙ c.if-is_short.false) (ap not (eq-eqb _ 1 c.if-other_code.false)) (ap not (sym c.is_offered-other_prime.ensures ∙ c.if-other_prime.false)) (size_decides c.args.shape c.args.k c.size_refusal-size.ensures c.if-size-ne0.true)
 
 pub returns-then-shape-k : goal.returns-then-shape-k
-returns-then-shape-k c = past5 c.args.shape c.args.k (sym c.code_refusal-wrong.ensures ∙ c.if-wrong-ne0.false) (sym c.is_short.ensures ∙ c.if-is_short.false) c.if-other_code.false (ap not (sym c.is_offered-other_prime.ensures) ∙ c.if-other_prime.false) (sym c.if-size-ne0.false ∙ c.size_refusal-size.ensures) (hit (le-leb _ _ c.if-shape-k.true))
+returns-then-shape-k c = past5 c.args.shape c.args.k (sym c.code_refusal-wrong.ensures ∙ c.if-wrong-ne0.false) (sym c.is_short.ensures ∙ c.if-is_short.false) (ap not (eq-eqb _ 1 c.if-other_code.false)) (ap not (sym c.is_offered-other_prime.ensures ∙ c.if-other_prime.false)) (sym c.if-size-ne0.false ∙ c.size_refusal-size.ensures) (hit (le-leb _ _ c.if-shape-k.true))
 
 pub returns : goal.returns
-returns c = past5 c.args.shape c.args.k (sym c.code_refusal-wrong.ensures ∙ c.if-wrong-ne0.false) (sym c.is_short.ensures ∙ c.if-is_short.false) c.if-other_code.false (ap not (sym c.is_offered-other_prime.ensures) ∙ c.if-other_prime.false) (sym c.if-size-ne0.false ∙ c.size_refusal-size.ensures) (miss (lt-leb _ _ c.if-shape-k.false) right)
+returns c = past5 c.args.shape c.args.k (sym c.code_refusal-wrong.ensures ∙ c.if-wrong-ne0.false) (sym c.is_short.ensures ∙ c.if-is_short.false) (ap not (eq-eqb _ 1 c.if-other_code.false)) (ap not (sym c.is_offered-other_prime.ensures ∙ c.if-other_prime.false)) (sym c.if-size-ne0.false ∙ c.size_refusal-size.ensures) (miss (lt-leb _ _ c.if-shape-k.false) right)

@@ -10,7 +10,7 @@ pub slice_bounds-lost-end : goal.slice_bounds-lost-end
 slice_bounds-lost-end c = let long = c.read_lost.ensures.long in omega arith
 
 pub slice_bounds-cells-end : goal.slice_bounds-cells-end
-slice_bounds-cells-end c = let long = c.read_lost.ensures.long in sym (length-take-le _ c.read_lost.new.1.1.1.0 (omega arith))
+slice_bounds-cells-end c = let long = c.read_lost.ensures.long in sym (length-take-le _ c.read_lost.new.lost (omega arith))
 
 pub returns : goal.returns
 returns c =
