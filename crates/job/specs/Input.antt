@@ -6,4 +6,4 @@ use Rattle.job.specs.declared.Input.TheVariants.{Bytes, Failed}
 -- no more bytes came than there was room for
 abbrev pub Within : ℕ → Input → Type 0
 Within room (Bytes n) = n ≤ room
-Within room Failed = Unit {0}
+Within room (Failed error) = Unit {0}

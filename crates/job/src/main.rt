@@ -5,50 +5,46 @@
 ghost use Rattle.std.specs.Prelude.{length};
 ghost use Rattle.job.specs.Input.{Within};
 
-use libc::{STDIN_FILENO, STDOUT_FILENO};
+use std::io::{Eprint, Error, Read, Result, Write};
 
 // What came: so many bytes, or a read that failed.
-#[derive(Clone, Copy)]
+#[derive(Drop)]
 enum Input {
     Bytes(usize),
-    Failed,
+    Failed(Error),
 }
 
-// Reads standard input until it ends or the lent bytes are full. No read follows one that failed: what came later would join what was cut off.
-fn read_input(input: &mut [u8]) -> Input
+// Reads until the input ends or the lent bytes are full. No read follows one that failed: what came later would join what was cut off.
+fn read_input(from: &mut impl Read, input: &mut [u8]) -> Input
     ensures { Within (length input.new) result }
 {
     let mut done = 0;
     while done < input.len() {
-        let got = libc::read(STDIN_FILENO, &mut input[done..]);
-        if got < 0 {
-            return Input::Failed;
+        match from.read(&mut input[done..]) {
+            Ok(0) => break,
+            Ok(more) => done += more,
+            Err(error) => return Input::Failed(error),
         }
-        let more = io::count(got, &input[done..]);
-        if more == 0 {
-            break;
-        }
-        done += more;
     }
     Input::Bytes(done)
 }
 
 // Writes the answer to the job that these bytes are. No answer is longer than 32,775 bytes.
-fn answer(job: &[u8]) {
+fn answer(to: &mut impl Write, job: &[u8]) -> Result<()> {
     let mut output = [0u8; 32775];
     let size = jobs::answer(job, &mut output);
-    if !io::write_all(STDOUT_FILENO, &output[..size]) {
-        os::fail(b"standard output");
-    }
+    to.write_all(&output[..size])
 }
 
 // No job is longer than 36,883 bytes: one byte more is read, so that a longer input is seen to be none. A job that can't be read whole is not
 // answered.
-fn main() {
+fn main(rt: HostRuntime) -> Result<()> {
     let mut input = [0u8; 36884];
-    let Input::Bytes(n) = read_input(&mut input) else {
-        os::fail(b"standard input");
-        return;
-    };
-    answer(&input[..n]);
+    match read_input(&mut rt.stdin(), &mut input) {
+        Input::Bytes(n) => match answer(&mut rt.stdout(), &input[..n]) {
+            Ok(()) => Ok(()),
+            Err(error) => eprintln!(rt; "standard output: {error}"),
+        },
+        Input::Failed(error) => eprintln!(rt; "standard input: {error}"),
+    }
 }
