@@ -10,7 +10,7 @@ use lib.Bits.{bit_xor, xor_mod}
 use lib.Dec.{eqb}
 use lib.ListN.{length, get_or, get_or-eq_default}
 use borrow.Author.Tests.{eq-eqb, ne_eqb, eqb-true}
-use Rattle.xor.specs.Xor.{◌⊕◌, xors}
+use Rattle.xor.specs.Xor.{xors}
 use Rattle.xor.specs.Runs.{Says}
 use Rattle.xor.proofs.Cases.{by_equal, by_less, clash, either}
 use Rattle.xor.proofs.Algebra.{⊕_is}

@@ -11,7 +11,7 @@ use Rattle.xor.proofs.Cases.{clash}
 use Rattle.xor.proofs.Algebra.{⊕_zero}
 use Rattle.xor.proofs.Sums.{xors_zero}
 use Rattle.codes.specs.declared.Shape.{Shape}
-use Rattle.codes.specs.Shape.{rows, columns, cells, WellFormed}
+use Rattle.codes.specs.Shape.{rows, columns, WellFormed}
 use Rattle.codes.specs.Agree.{in_columns}
 use Rattle.codes.proofs.Parity.{same_bytes}
 use Rattle.columns.proofs.TwoColumns.{two_columns_determined}

@@ -2,7 +2,7 @@
 use mathlib.Core.Path.{◌≡◌, refl, sym, ap, ap₂, ◌∙◌, subst}
 use mathlib.Core.Logic.{◌≢◌, inl, inr, ⊎_elim}
 use mathlib.Core.List.{List}
-use mathlib.Core.Bool.{Bool, false, cond, not, ◌&&◌}
+use mathlib.Core.Bool.{Bool, false, cond, ◌&&◌}
 use Prim.Native.Nat.{ℕ, ◌<◌}
 use native.Mathlib.Omega.{arith}
 use lib.ListN.{length, get_or}
@@ -11,7 +11,7 @@ use Rattle.xor.proofs.Cases.{clash, not_passed}
 use Rattle.bits.specs.Bit.{IsLowest}
 use Rattle.codes.specs.declared.Shape.{Shape}
 use Rattle.codes.specs.Shape.{cells, equations, stripe_length, WellFormed}
-use Rattle.codes.specs.Encoded.{byte_at, Encoded, fails}
+use Rattle.codes.specs.Encoded.{byte_at, Encoded}
 use Rattle.codes.proofs.Parity.{same_bytes}
 use Rattle.codes.proofs.Solutions.{solves_same}
 use Rattle.decide.specs.Survivors.{Restores}

@@ -1,5 +1,4 @@
 -- `bad::add_to` meets its contract. The loop's invariant: x is in the totals of the members that are not in `rest`.
-use Prim.Native.Nat.{◌-◌}
 use Rattle.solve.proofs.Turns.{AddedTo}
 use Rattle.bad.proofs.add_to.Given as goal
 

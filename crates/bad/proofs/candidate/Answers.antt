@@ -1,6 +1,6 @@
 -- `bad::candidate` meets its contract. The outer loop's invariant: no column below c explains values with these totals.
 use mathlib.Core.Path.{refl, sym, ◌∙◌, subst}
-use Prim.Native.Nat.{ℕ, ◌-◌, ◌<◌}
+use Prim.Native.Nat.{ℕ, ◌<◌}
 use native.Mathlib.Omega.{arith}
 use Rattle.xor.proofs.Runs.{zero_next}
 use Rattle.codes.specs.Shape.{columns, disks}

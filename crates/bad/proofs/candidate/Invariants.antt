@@ -4,7 +4,6 @@ use mathlib.Core.Path.{◌≡◌}
 use Prim.Native.Nat.{◌-◌, ◌≤◌}
 use lib.ListN.{get_or}
 use Rattle.xor.proofs.Runs.{Zero}
-use Rattle.codes.specs.Shape.{disks}
 use Rattle.bad.proofs.Explained.{NoneBelow}
 use Rattle.bad.proofs.candidate.Given as goal
 

@@ -31,15 +31,15 @@ disk_count-requires c = c.requires.0.formed
 pub returns-then-d-disk_count : goal.returns-then-d-disk_count
 returns-then-d-disk_count c =
     let sought : let a = c.args in Sought a.shape c.requires.0.formed a.stripe.now a.at a.n c.candidate-d.result = record {
-  q = c.args.q;
-  i = c.failing_byte-i.result;
-  there = c.requires.1;
-  inside = c.failing_byte-i.ensures.0;
-  fails = c.failing_byte-i.ensures.1;
-  totals = c.totals_at-totals.result;
-  of = c.totals_at-totals.ensures;
-  candidate = c.candidate-d.ensures;
-} in
+      q = c.args.q;
+      i = c.failing_byte-i.result;
+      there = c.requires.1;
+      inside = c.failing_byte-i.ensures.0;
+      fails = c.failing_byte-i.ensures.1;
+      totals = c.totals_at-totals.result;
+      of = c.totals_at-totals.ensures;
+      candidate = c.candidate-d.ensures;
+    } in
     none_named _ _ _ _ _ _ (sought) (c.if-d-disk_count.true ∙ c.disk_count.ensures)
 
 pub column_of-requires : goal.column_of-requires
@@ -60,29 +60,29 @@ column_agrees-requires c =
 pub returns-then-column_agrees : goal.returns-then-column_agrees
 returns-then-column_agrees c =
     let sought : let a = c.args in Sought a.shape c.requires.0.formed a.stripe.now a.at a.n c.candidate-d.result = record {
-  q = c.args.q;
-  i = c.failing_byte-i.result;
-  there = c.requires.1;
-  inside = c.failing_byte-i.ensures.0;
-  fails = c.failing_byte-i.ensures.1;
-  totals = c.totals_at-totals.result;
-  of = c.totals_at-totals.ensures;
-  candidate = c.candidate-d.ensures;
-} in
+      q = c.args.q;
+      i = c.failing_byte-i.result;
+      there = c.requires.1;
+      inside = c.failing_byte-i.ensures.0;
+      fails = c.failing_byte-i.ensures.1;
+      totals = c.totals_at-totals.result;
+      of = c.totals_at-totals.ensures;
+      candidate = c.candidate-d.ensures;
+    } in
     let there : c.candidate-d.result < disks c.args.shape = let other = c.if-d-disk_count.false in omega (arith, c.candidate-d.ensures.most, c.disk_count.ensures, other) in
     named_column _ _ _ _ _ _ (sought) (there) _ c.column_of.ensures (c.column_agrees.ensures.yes c.if-column_agrees.true)
 
 pub returns : goal.returns
 returns c =
     let sought : let a = c.args in Sought a.shape c.requires.0.formed a.stripe.now a.at a.n c.candidate-d.result = record {
-  q = c.args.q;
-  i = c.failing_byte-i.result;
-  there = c.requires.1;
-  inside = c.failing_byte-i.ensures.0;
-  fails = c.failing_byte-i.ensures.1;
-  totals = c.totals_at-totals.result;
-  of = c.totals_at-totals.ensures;
-  candidate = c.candidate-d.ensures;
-} in
+      q = c.args.q;
+      i = c.failing_byte-i.result;
+      there = c.requires.1;
+      inside = c.failing_byte-i.ensures.0;
+      fails = c.failing_byte-i.ensures.1;
+      totals = c.totals_at-totals.result;
+      of = c.totals_at-totals.ensures;
+      candidate = c.candidate-d.ensures;
+    } in
     let there : c.candidate-d.result < disks c.args.shape = let other = c.if-d-disk_count.false in omega (arith, c.candidate-d.ensures.most, c.disk_count.ensures, other) in
     not_this _ _ _ _ _ _ (sought) (there) _ c.column_of.ensures (c.column_agrees.ensures.no c.if-column_agrees.false)

@@ -1,5 +1,4 @@
 -- `bad::totals_at` meets its contract. The loop's invariant: the first q entries are the totals of the first q equations.
-use Prim.Native.Nat.{◌-◌}
 use native.Mathlib.Omega.{arith}
 use Rattle.codes.specs.Encoded.{total}
 use Rattle.codes.proofs.Shapes.{small_equations}

@@ -1,6 +1,6 @@
 -- `bad::without_column` meets its contract. The loop's invariant: `rest` is what is left once the cells of the first i rows have taken in their values.
 use mathlib.Core.Path.{refl}
-use Prim.Native.Nat.{◌-◌, ◌<◌}
+use Prim.Native.Nat.{◌<◌}
 use native.Mathlib.Omega.{arith}
 use Rattle.codes.specs.Shape.{cells, cell_number}
 use Rattle.codes.proofs.Shapes.{small_equations}

@@ -1,5 +1,4 @@
 -- `bits::list_members` meets its contract. The loop's invariant: the members that are not in `rest` are listed.
-use Prim.Native.Nat.{◌-◌}
 use Rattle.bits.proofs.Members.{MembersTo}
 use Rattle.bits.proofs.list_members.Given as goal
 

@@ -1,5 +1,4 @@
 -- `bits::union` meets its contract. The loop's invariant: `all` is the union of the first j sets.
-use Prim.Native.Nat.{◌-◌}
 use Rattle.bits.proofs.Members.{union_none, union_more, union_all}
 use native.Mathlib.Omega.{arith}
 use Rattle.bits.proofs.union.Goals as goal

@@ -1,5 +1,4 @@
 -- `codes::disk_count` meets its contract. All columns exist, or the data columns that are given and two more.
-use Prim.Native.Nat.{◌-◌}
 use native.Mathlib.Omega.{arith}
 use Rattle.codes.proofs.Shapes.{low, high, full_missing, data_known, disks_is, rdp_is, columns_of}
 use Rattle.codes.specs.Equations.{rdp}

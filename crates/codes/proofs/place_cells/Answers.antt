@@ -1,5 +1,4 @@
 -- `codes::place_cells` meets its contract. The loop's invariant: the first k places are filled in, and the code stands at cell k.
-use Prim.Native.Nat.{◌-◌}
 use native.Mathlib.Omega.{arith}
 use Rattle.codes.proofs.Stepping.{count_most}
 use Rattle.codes.proofs.Walked.{filled_none, filled_more, bytes_small, walked_small, all_placed}

@@ -1,6 +1,5 @@
 -- `decide::gather` meets its contract. The loop's invariant: the first k sources are gathered.
 use mathlib.Core.Path.{refl}
-use Prim.Native.Nat.{◌-◌}
 use Rattle.decide.proofs.Lists.{gathered_none, gathered_more, gathered_all}
 use native.Mathlib.Omega.{arith}
 use Rattle.decide.proofs.gather.Goals as goal

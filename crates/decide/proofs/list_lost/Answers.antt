@@ -1,5 +1,5 @@
 -- `decide::list_lost` meets its contract. The loop's invariant: the lost cells below c are listed, and there are u of them.
-use Prim.Native.Nat.{◌-◌, ◌<◌}
+use Prim.Native.Nat.{◌<◌}
 use Rattle.codes.proofs.Shapes.{cells_high, small_equations}
 use Rattle.decide.proofs.Lists.{listed_none, listed_over, listed_with, listed_is, listed_end, listed_more}
 use mathlib.Core.Path.{refl, sym}

@@ -1,6 +1,6 @@
 -- `decide::mark_cells` meets its contract. The loop's invariant: the map marks the cells that the first k numbers name.
 use mathlib.Core.Path.{ap}
-use Prim.Native.Nat.{ℕ, ◌-◌, ◌<◌}
+use Prim.Native.Nat.{ℕ, ◌<◌}
 use native.Mathlib.Omega.{arith}
 use lib.Dec.{eqb}
 use Rattle.codes.proofs.Shapes.{most_cells, cells_high}

@@ -1,7 +1,6 @@
 -- `equation::first_failing_with` meets its contract. The loop's invariant: none of the first q equations fails in the window.
 use mathlib.Core.Path.{◌≡◌, sym, ap, ◌∙◌}
-use mathlib.Core.Bool.{false}
-use Prim.Native.Nat.{ℕ, ◌-◌}
+use Prim.Native.Nat.{ℕ}
 use native.Mathlib.Omega.{arith}
 use Rattle.equation.specs.Window.{fails_in}
 use Rattle.xor.proofs.Cases.{by_equal}

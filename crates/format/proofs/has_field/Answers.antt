@@ -20,6 +20,6 @@ returns-in-There c =
 pub returns-in-Missing : goal.returns-in-Missing
 returns-in-Missing c =
     record {
-  there = λ t. clash t refl;
-  none = λ _. subst (FindsField _ _ _ _) c.in-Missing.is c.find_field.ensures _ (omega arith);
-}
+      there = λ t. clash t refl;
+      none = λ _. subst (FindsField _ _ _ _) c.in-Missing.is c.find_field.ensures _ (omega arith);
+    }

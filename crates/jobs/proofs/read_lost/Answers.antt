@@ -1,5 +1,4 @@
 -- `jobs::read_lost` meets its contract. The loop's invariant: the first k numbers are listed.
-use Prim.Native.Nat.{◌-◌}
 use native.Mathlib.Omega.{arith}
 use Rattle.jobs.proofs.LostNumbers.{lists_none, lists_more, lists_all}
 use Rattle.jobs.proofs.read_lost.Goals as goal

@@ -1,6 +1,5 @@
 -- `lanes::fill` meets its contract. The loop's invariant: the lost cells are mended in the bytes below `at`.
 use mathlib.Core.Path.{◌∙◌}
-use Prim.Native.Nat.{◌-◌}
 use Rattle.lanes.proofs.Lanes.{filled_nowhere, filled_lane, filled_whole}
 use native.Mathlib.Omega.{arith}
 use Rattle.lanes.proofs.fill.Goals as goal

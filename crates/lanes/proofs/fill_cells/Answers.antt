@@ -1,6 +1,6 @@
 -- `lanes::fill_cells` meets its contract. The loop's invariant: the first k lost cells are mended in this lane.
 use mathlib.Core.Path.{sym}
-use Prim.Native.Nat.{◌+◌, ◌-◌}
+use Prim.Native.Nat.{◌+◌}
 use Rattle.xor.proofs.Runs.{first_long}
 use Rattle.lanes.proofs.Lanes.{lanes_inside, lanes_added, filled_none, filled_at, filled_end}
 use Rattle.codes.proofs.Shapes.{length_high}

@@ -1,6 +1,6 @@
 -- `lanes::lanes_agree` meets its contract. The loop's invariant: the first j sets sum to zero.
 use mathlib.Core.Path.{◌≡◌, sym}
-use Prim.Native.Nat.{ℕ, ◌+◌, ◌-◌, ◌<◌}
+use Prim.Native.Nat.{ℕ, ◌+◌, ◌<◌}
 use lib.Bits.{bit_and}
 use lib.ListN.{get_or}
 use Rattle.xor.proofs.Runs.{first_long}

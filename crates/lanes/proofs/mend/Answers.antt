@@ -14,14 +14,13 @@ pub survivors_agree-agree-requires : goal.survivors_agree-agree-requires
 survivors_agree-agree-requires c = (whole _ _ c.requires.0 c.requires.1, c.requires.4, length-replicate {A = ℕ} 32768 0)
 
 pub fill-requires : goal.fill-requires
-fill-requires c =
-    (
-      c.requires.0,
-      c.requires.1,
-      record { long = c.requires.2.long; few = omega (arith, c.requires.2.few); below = λ j l. c.requires.2.below j (omega (arith, l)) },
-      record { long = c.requires.3.long; inside = λ k l. c.requires.3.inside k (omega (arith, l)); there = λ k l. c.requires.3.there k (omega (arith, l)) },
-      c.survivors_agree-agree.ensures.1,
-    )
+fill-requires c = (
+  c.requires.0,
+  c.requires.1,
+  record { long = c.requires.2.long; few = omega (arith, c.requires.2.few); below = λ j l. c.requires.2.below j (omega (arith, l)) },
+  record { long = c.requires.3.long; inside = λ k l. c.requires.3.inside k (omega (arith, l)); there = λ k l. c.requires.3.there k (omega (arith, l)) },
+  c.survivors_agree-agree.ensures.1,
+)
 
 pub returns-then-agree-2 : goal.returns-then-agree-2
 returns-then-agree-2 c =

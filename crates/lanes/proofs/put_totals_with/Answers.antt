@@ -1,7 +1,7 @@
 -- `lanes::put_totals_with` meets its contract. The loop's invariant: the lanes of the first k members are done, and those of them that fail are known.
 use mathlib.Core.Path.{refl, sym, ap, ◌∙◌, subst}
 use mathlib.Core.Bool.{not}
-use Prim.Native.Nat.{◌+◌, ◌-◌}
+use Prim.Native.Nat.{◌+◌}
 use Rattle.xor.proofs.Runs.{summed_says}
 use Rattle.equation.proofs.Windows.{fails_by}
 use Rattle.lanes.proofs.Lanes.{totals_none, totals_more, totals_all, FailingTo, failing_none, failing_not, failing_more, failing_all}
@@ -51,10 +51,10 @@ loop-k-preserved c =
       omega arith,
       totals_more a.shape a.stripe.now a.at a.n _ turn.k _ _ c.requires.0.few turn.invariant.1 total.ensures.put,
       elim c.if-not-put_total.branch [
-      | then-not-put_total w ↦ subst (FailingTo a.shape a.stripe.now a.at a.n _ (turn.k + 1)) (sym w.failing-is)
-          (failing_more a.shape a.stripe.now a.at a.n _ turn.k turn.failing turn.invariant.2 _ w.one_bit-failing.ensures (sym fails ∙ ap not w.if-not-put_total.true))
-      | else-not-put_total w ↦ subst (FailingTo a.shape a.stripe.now a.at a.n _ (turn.k + 1)) (sym w.failing-is)
-          (failing_not a.shape a.stripe.now a.at a.n _ turn.k turn.failing turn.invariant.2 (sym fails ∙ ap not w.if-not-put_total.false))
+        | then-not-put_total w ↦ subst (FailingTo a.shape a.stripe.now a.at a.n _ (turn.k + 1)) (sym w.failing-is)
+            (failing_more a.shape a.stripe.now a.at a.n _ turn.k turn.failing turn.invariant.2 _ w.one_bit-failing.ensures (sym fails ∙ ap not w.if-not-put_total.true))
+        | else-not-put_total w ↦ subst (FailingTo a.shape a.stripe.now a.at a.n _ (turn.k + 1)) (sym w.failing-is)
+            (failing_not a.shape a.stripe.now a.at a.n _ turn.k turn.failing turn.invariant.2 (sym fails ∙ ap not w.if-not-put_total.false))
       ],
     )
 

@@ -1,5 +1,4 @@
 -- `lanes::survivors_agree` meets its contract. The loop's invariant: the first `done` bytes from `at` on pass.
-use Prim.Native.Nat.{◌-◌}
 use Rattle.lanes.proofs.Lanes.{passes_none, passes_more, passes_not, passes_all}
 use native.Mathlib.Omega.{arith}
 use Rattle.lanes.proofs.survivors_agree.Goals as goal

@@ -1,6 +1,6 @@
 -- `plan::reads_by` meets its contract. In the loop `reads` is what is read of the first d columns that exist.
 use mathlib.Core.Path.{◌≡◌, sym, ap, ◌∙◌, subst}
-use Prim.Native.Nat.{◌+◌, ◌-◌, ◌≤◌, ◌<◌}
+use Prim.Native.Nat.{◌+◌, ◌≤◌, ◌<◌}
 use native.Mathlib.Omega.{arith}
 use Rattle.codes.specs.Shape.{disks}
 use Rattle.codes.specs.Geometry.{column_of}

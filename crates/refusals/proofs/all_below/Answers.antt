@@ -1,6 +1,5 @@
 -- `refusals::all_below` meets its contract. The loop's invariant: the first k numbers are below n.
 use mathlib.Core.Path.{refl}
-use Prim.Native.Nat.{◌-◌}
 use native.Mathlib.Omega.{arith}
 use borrow.Author.Count.{below_none, below_more}
 use Rattle.xor.proofs.Cases.{clash}

@@ -1,5 +1,4 @@
 -- `solve::add_to` meets its contract. The loop's invariant: the masks of the members that are not in rest are done.
-use Prim.Native.Nat.{◌-◌}
 use Rattle.solve.proofs.Turns.{AddedTo}
 use Rattle.solve.proofs.add_to.Given as goal
 

@@ -1,6 +1,5 @@
 -- `solve::eliminate` meets its contract. The loop's invariant: on every problem with the first masks the run has come to lost cell number k,
 use mathlib.Core.Path.{refl}
-use Prim.Native.Nat.{◌-◌}
 use native.Mathlib.Omega.{arith}
 use lib.Pow.{pow_pos}
 use Rattle.solve.proofs.Eliminating.{sofar_first, sofar_more, sofar_stops, sofar_all}

@@ -1,5 +1,4 @@
 -- `solve::find_equation` meets its contract. The loop's invariant: the unused equations that are not in rest don't start at cell number k.
-use Prim.Native.Nat.{◌-◌}
 use Rattle.solve.proofs.Turns.{Sought}
 use Rattle.solve.proofs.find_equation.Given as goal
 

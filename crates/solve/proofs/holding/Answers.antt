@@ -1,5 +1,4 @@
 -- `solve::holding` meets its contract. The loop's invariant: the members are those of the first q equations that hold the cell.
-use Prim.Native.Nat.{◌-◌}
 use native.Mathlib.Omega.{arith}
 use Rattle.solve.proofs.Turns.{holding_none, holding_less, holding_more, holding_all}
 use Rattle.solve.proofs.holding.Goals as goal

@@ -1,5 +1,4 @@
 -- `solve::own_sources` meets its contract. The loop's invariant: the first q masks are done.
-use Prim.Native.Nat.{◌-◌}
 use native.Mathlib.Omega.{arith}
 use Rattle.solve.proofs.Turns.{own_none, own_more, own_all}
 use Rattle.solve.proofs.own_sources.Goals as goal

@@ -1,6 +1,6 @@
 -- `spare::list_places` meets its contract. The loop's invariant: the first t columns from the one that leads on have their places.
 use mathlib.Core.Path.{◌≡◌, ap}
-use Prim.Native.Nat.{◌-◌, ◌≤◌, ◌<◌}
+use Prim.Native.Nat.{◌≤◌, ◌<◌}
 use native.Mathlib.Omega.{arith}
 use Rattle.codes.proofs.Shapes.{high}
 use Rattle.codes.proofs.Lines.{rdp_columns}
@@ -102,8 +102,7 @@ loop-t-preserved c =
     ) in
     let column_is : c.turned-column.result ≡ past c.args.shape c.loop-t.t = let pre = c.requires in past_is _ pre.0 pre.1 _ _ _ pre.3 c.turned-column.ensures in
     let column_low : c.turned-column.result < c.args.shape.p = let pre = c.requires in past_low _ pre.0 pre.1 _ _ (column_is) in
-    let slot-few : c.turned-column.result < 32 = omega (arith, column_low, high _ c.requires.0) in
-    (
+    let slot-few : c.turned-column.result < 32 = omega (arith, column_low, high _ c.requires.0) in (
       omega (arith, c.loop-t-test.true),
       filled_more _ c.requires.0 _ _ _ _ _ _ c.loop-t-test.true c.loop-t.invariant.1 (column_is) (slot-few) c.column_place-start.ensures (fits) c.put_column.ensures,
     )

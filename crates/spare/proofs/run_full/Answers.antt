@@ -1,6 +1,6 @@
 -- `spare::run_full` meets its contract. The loop's invariant: the rows from the first up to row i are rebuilt, and no other byte has changed;
 use mathlib.Core.Path.{refl, sym, ◌∙◌}
-use Prim.Native.Nat.{◌+◌, ◌-◌, ◌*◌, ◌≤◌, ◌<◌}
+use Prim.Native.Nat.{◌+◌, ◌*◌, ◌≤◌, ◌<◌}
 use native.Mathlib.Omega.{arith}
 use lib.ListN.{length}
 use Rattle.codes.specs.Shape.{rows}

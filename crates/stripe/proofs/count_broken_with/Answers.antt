@@ -3,7 +3,6 @@ use Rattle.equation.proofs.Windows.{whole, fails_whole}
 use Rattle.stripe.proofs.BrokenFacts.{counted_all}
 use Rattle.codes.proofs.Shapes.{small_equations}
 use mathlib.Core.Path.{◌≡◌, sym, ◌∙◌}
-use Prim.Native.Nat.{◌-◌}
 use native.Mathlib.Omega.{arith}
 use Rattle.xor.proofs.Sets.{count_none, count_in, count_out, count_most}
 use Rattle.codes.specs.Encoded.{fails}

@@ -1,6 +1,5 @@
 -- `stripe::set_parities_with` meets its contract. The loop's invariant: the parity cells of the first q equations are set, one after the other.
 use mathlib.Core.Path.{◌∙◌}
-use Prim.Native.Nat.{◌-◌}
 use native.Mathlib.Omega.{arith}
 use Rattle.equation.proofs.Windows.{whole}
 use Rattle.stripe.proofs.Encoding.{settled_none, settled_more, settled_shares, settled_all}

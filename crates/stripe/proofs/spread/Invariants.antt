@@ -1,5 +1,4 @@
 -- `stripe::spread` meets its contract. The loop's invariant: the parity cells of the set's equations that are not in rest are done.
-use Prim.Native.Nat.{◌-◌}
 use Rattle.stripe.specs.Parts.{differs}
 use Rattle.stripe.proofs.Writing.{SpreadTo}
 use Rattle.stripe.proofs.spread.Given as goal

@@ -1,6 +1,5 @@
 -- `xor::add_bytes` meets its contract. The loop's invariant: the first i bytes are XORed in, and the others are as they were.
 use mathlib.Core.Path.{refl}
-use Prim.Native.Nat.{◌-◌}
 use native.Mathlib.Omega.{arith}
 use Rattle.xor.proofs.Runs.{added_none, added_more}
 use borrow.Author.Rules.{rules}

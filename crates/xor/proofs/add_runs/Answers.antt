@@ -1,5 +1,4 @@
 -- `xor::add_runs` meets its contract. The loop's invariant: the bytes of the first k runs are XORed in.
-use Prim.Native.Nat.{◌-◌}
 use native.Mathlib.Omega.{arith}
 use Rattle.xor.proofs.Runs.{runs_none, runs_more, runs_all}
 use borrow.Author.Rules.{rules}

@@ -1,6 +1,5 @@
 -- `xor::all_zero` meets its contract. The loop's invariant: a bit is set exactly where one of the first i bytes has one.
 use mathlib.Core.Path.{refl}
-use Prim.Native.Nat.{◌-◌}
 use native.Mathlib.Omega.{arith}
 use Rattle.xor.proofs.Runs.{gathered_none, gathered_more, gathered_says}
 use borrow.Author.Rules.{rules}

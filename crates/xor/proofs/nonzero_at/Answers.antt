@@ -1,6 +1,6 @@
 -- `xor::nonzero_at` meets its contract. The loop's invariant: the XOR of the runs is zero up to `done`.
 use mathlib.Core.Path.{refl}
-use Prim.Native.Nat.{◌+◌, ◌-◌}
+use Prim.Native.Nat.{◌+◌}
 use native.Mathlib.Omega.{arith}
 use lib.ListN.{length}
 use Rattle.xor.specs.Runs.{sum_at}

@@ -1,5 +1,4 @@
 -- `xor::nonzero_byte` meets its contract. The loop's invariant: the first i bytes are zero.
-use Prim.Native.Nat.{◌-◌}
 use native.Mathlib.Omega.{arith}
 use Rattle.xor.proofs.Runs.{zero_next, nonzero_none, nonzero_here}
 use borrow.Author.Rules.{rules}

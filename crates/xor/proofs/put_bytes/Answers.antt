@@ -1,6 +1,5 @@
 -- `xor::put_bytes` meets its contract. The loop's invariant: the first i bytes are stored, no other byte has changed, and a bit is set exactly where one of them has one.
 use mathlib.Core.Path.{refl}
-use Prim.Native.Nat.{◌-◌}
 use native.Mathlib.Omega.{arith}
 use Rattle.xor.proofs.Runs.{gathered_none, gathered_more, gathered_says, put_none, put_more, put_end, summed_as}
 use Rattle.xor.proofs.put_bytes.Goals as goal

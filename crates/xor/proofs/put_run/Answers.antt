@@ -1,6 +1,5 @@
 -- `xor::put_run` meets its contract. The loop's invariant: the first i bytes are stored, and no other byte has changed.
 use mathlib.Core.Path.{refl}
-use Prim.Native.Nat.{◌-◌}
 use native.Mathlib.Omega.{arith}
 use Rattle.xor.proofs.Runs.{put_none, put_more, put_end}
 use Rattle.xor.proofs.put_run.Goals as goal

@@ -1,5 +1,5 @@
 -- `xor::put_sum` meets its contract. The loop's invariant: the run is summed up to `done`, from runs that are as they were, since they are apart from it.
-use Prim.Native.Nat.{◌+◌, ◌-◌}
+use Prim.Native.Nat.{◌+◌}
 use native.Mathlib.Omega.{arith}
 use lib.ListN.{length}
 use Rattle.xor.proofs.Runs.{summed_none, summed_apart, summed_end, shorter}

@@ -1,6 +1,6 @@
 -- `xor::put_sum_from` meets its contract. The loop's invariant: the run is stored up to `done`.
 use mathlib.Core.Path.{refl}
-use Prim.Native.Nat.{◌+◌, ◌-◌}
+use Prim.Native.Nat.{◌+◌}
 use lib.ListN.{length}
 use Rattle.xor.proofs.Runs.{summed_none, summed_from, summed_end, shorter}
 use native.Mathlib.Omega.{arith}

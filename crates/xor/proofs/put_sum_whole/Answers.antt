@@ -1,6 +1,6 @@
 -- `xor::put_sum_whole` meets its contract. The loop's invariant: the first `done` bytes are summed.
 use mathlib.Core.Path.{refl}
-use Prim.Native.Nat.{◌+◌, ◌-◌}
+use Prim.Native.Nat.{◌+◌}
 use native.Mathlib.Omega.{arith}
 use lib.ListN.{length}
 use Rattle.xor.proofs.Runs.{summed_none, summed_start, summed_end, shorter}

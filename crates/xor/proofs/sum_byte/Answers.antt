@@ -1,6 +1,5 @@
 -- `xor::sum_byte` meets its contract. The loop's invariant: byte t of the first k runs is XORed in.
 use mathlib.Core.Path.{sym}
-use Prim.Native.Nat.{◌-◌}
 use native.Mathlib.Omega.{arith}
 use Rattle.xor.proofs.Sums.{xors_none}
 use Rattle.xor.proofs.Runs.{byte_more, byte_all}

@@ -1,9 +1,8 @@
 -- `xor::sums_to_zero` meets its contract. The loop's invariant: the XOR of the runs is zero up to `done`.
 use mathlib.Core.Path.{refl}
-use Prim.Native.Nat.{◌+◌, ◌-◌}
+use Prim.Native.Nat.{◌+◌}
 use native.Mathlib.Omega.{arith}
 use lib.ListN.{length}
-use borrow.Author.Tests.{not-true, not-false}
 use Rattle.xor.specs.Runs.{sum_at}
 use Rattle.xor.proofs.Runs.{zero_more, zero_on, zero_not, zero_all, summed_says, shorter}
 use borrow.Author.Rules.{rules}

@@ -1,11 +1,10 @@
 -- `xor::sums_to_zero_with` meets its contract. The loop's invariant: the XOR of the runs and of the other bytes is zero up to `done`.
 use mathlib.Core.Path.{◌≡◌, refl, ap}
 use mathlib.Core.Bool.{Bool}
-use Prim.Native.Nat.{ℕ, ◌+◌, ◌-◌, ◌<◌}
+use Prim.Native.Nat.{ℕ, ◌+◌, ◌<◌}
 use native.Mathlib.Nat.{add_assoc, zero-add}
 use native.Mathlib.Omega.{arith}
 use lib.ListN.{length, get_or}
-use borrow.Author.Tests.{not-true, not-false}
 use Rattle.xor.specs.Xor.{◌⊕◌}
 use Rattle.xor.specs.Runs.{sum_at, Says}
 use Rattle.xor.proofs.Runs.{zero_more, zero_not, zero_all, says_zero, with_block, one_inside, shorter}

@@ -1,5 +1,4 @@
 -- `codes::layout::data_columns` meets its contract. All of them exist, or those that are given.
-use Prim.Native.Nat.{◌-◌}
 use native.Mathlib.Omega.{arith}
 use Rattle.codes.proofs.Shapes.{low, full_missing, data_known}
 use Rattle.codes.proofs.layout.data_columns.Goals as goal

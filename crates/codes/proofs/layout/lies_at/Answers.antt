@@ -1,6 +1,5 @@
 -- `codes::layout::lies_at` meets its contract. The data columns that exist lie by their numbers, and the others behind them.
 use mathlib.Core.Path.{sym}
-use Prim.Native.Nat.{◌-◌}
 use native.Mathlib.Omega.{arith}
 use Rattle.codes.proofs.Shapes.{low, full_missing, data_known}
 use Rattle.codes.proofs.Geometry.{there_cases, lies_before, lies_after, lies_all}

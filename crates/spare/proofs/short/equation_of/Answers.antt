@@ -1,6 +1,6 @@
 -- `spare::short::equation_of` meets its contract: a row's equation, or that of its diagonal.
 use mathlib.Core.Path.{sym, ap₂, ◌∙◌}
-use Prim.Native.Nat.{◌+◌, ◌-◌, ◌<◌}
+use Prim.Native.Nat.{◌+◌, ◌<◌}
 use native.Mathlib.Nat.{mod-lt}
 use native.Mathlib.Omega.{arith}
 use Rattle.bits.proofs.Masks.{bit_clear, bit_set}

@@ -1,5 +1,5 @@
 -- `spare::short::leave_out` meets its contract. The loop's invariant: among the first j places the last one stands in for the lost cell's.
-use Prim.Native.Nat.{◌-◌, ◌<◌}
+use Prim.Native.Nat.{◌<◌}
 use native.Mathlib.Omega.{arith}
 use Rattle.spare.proofs.LeftOut.{others_none, others_more, others_end}
 use Rattle.spare.proofs.short.leave_out.Goals as goal
