@@ -13,7 +13,7 @@
 #                 one-column, four-cells, clean, bad-column and deciding, with encode and
 #                 broken for their bars
 #   --codes CODES some codes, by their numbers; for EVENODD's bars it takes '1 2 4'
-#   --lib FILE    measures FILE in place of what `rt staticlib zijraduf` makes
+#   --lib FILE    measures FILE in place of what `rt lib` makes in crates/zijraduf
 #   --keep FOLDER leaves the driver and the figures there
 #
 # x86-64: instructions by perf or valgrind, and GB/s. Arm: instructions, by the kit's
@@ -74,7 +74,6 @@ peers=$ROOT/target/bench/peers
 snapraid=$ROOT/target/bench/snapraid
 figures=$BUILD/figures
 mkdir -p "$ROOT/target/bench"
-[ -z "$EMULATOR" ] || times=
 
 say() { echo "bench: $*" >&2; }
 
@@ -133,7 +132,7 @@ fetch_peers() {
 # No package has snapraid's library of parities: it is built from Debian's source.
 fetch_snapraid() {
     [ ! -e "$snapraid/done" ] || return 0
-    [ -z "$EMULATOR" ] && command -v cc >/dev/null || { echo 'no C compiler with headers for x86-64 here'; return 1; }
+    command -v cc >/dev/null || { echo 'no C compiler with headers for x86-64 here'; return 1; }
     new=$BUILD/snapraid
     mkdir -p "$new"
     apt_in "$BUILD/apt-source" || return 1
@@ -162,8 +161,8 @@ cc_part() {
 
 build() {
     if [ -z "$lib" ]; then
-        rt staticlib zijraduf >&2
-        lib=$ROOT/target/staticlib/libzijraduf.a
+        kit_lib >&2
+        lib=$LIB
     fi
     mkdir -p "$BUILD/parts"
     for part in harness/bench/*.c; do
@@ -185,21 +184,11 @@ compare_same() {
 
 # The driver, with the peers where it looks for them.
 path=$TOOLS/lib:$peers/usr/lib/x86_64-linux-gnu:$snapraid
-driver() { ${EMULATOR:+"$EMULATOR"} "$LOADER" --library-path "$path" "$BUILD/driver" "$@"; }
+driver() { "$LOADER" --library-path "$path" "$BUILD/driver" "$@"; }
 
 # ---- instructions: 'CALL WHO COUNT' for some calls of a shape ----
 
-# Copies are made by vectors: `rep movsb` is a single instruction, run once a byte.
-by_emulator() {
-    "$EMULATOR" -cpu max,erms=off,fsrm=off -singlestep -d exec,nochain -D /dev/stdout \
-        "$LOADER" --library-path "$path" "$BUILD/driver" count "$@" |
-        awk '/^Trace/ { n++; next }
-             /^begin/ { call = $2; who = $3; n = 0 }
-             /^end/ && who == "nothing" { none = n; next }
-             /^end/ { print call, who, n - none }'
-}
-
-# Valgrind counts a `rep` once a byte too.
+# Copies are made by vectors: `rep movsb` is a single instruction, and valgrind counts it once a byte.
 by_callgrind() {
     rm -f "$BUILD"/callgrind*
     GLIBC_TUNABLES=glibc.cpu.hwcaps=-ERMS valgrind --tool=callgrind --callgrind-out-file="$BUILD/callgrind" \
@@ -226,10 +215,7 @@ by_perf() {
 }
 
 pick_counter() {
-    if [ -n "$EMULATOR" ]; then
-        counter=by_emulator
-        how="all that the kit's emulator runs in one call, exact"
-    elif [ "$(perf_calls 1 5 512 encode ours 1 2>/dev/null || echo 0)" -gt 0 ]; then
+    if [ "$(perf_calls 1 5 512 encode ours 1 2>/dev/null || echo 0)" -gt 0 ]; then
         counter=by_perf
         how='perf stat -e instructions:u, 257 calls less 1 call, a 256th'
     elif [ -n "$(by_callgrind 1 5 512 encode 2>/dev/null)" ]; then
@@ -295,16 +281,11 @@ other_bytes() {
 header() {
     echo "# The library's calls, measured"
     echo
-    if [ -n "$EMULATOR" ]; then
-        echo "- Machine: $(uname -m); x86-64 programs run under the kit's emulator, so there are no times."
-        level=AVX2
-    else
-        echo "- Machine: $(sed -n 's/^model name[^:]*: //p' /proc/cpuinfo | head -n 1), $(uname -m)."
-        level=SSE
-        for flag in avx avx2 avx512f; do
-            if grep -q "^flags.* $flag " /proc/cpuinfo; then level=$(echo $flag | tr a-z A-Z); fi
-        done
-    fi
+    echo "- Machine: $(sed -n 's/^model name[^:]*: //p' /proc/cpuinfo | head -n 1), $(uname -m)."
+    level=SSE
+    for flag in avx avx2 avx512f; do
+        if grep -q "^flags.* $flag " /proc/cpuinfo; then level=$(echo $flag | tr a-z A-Z); fi
+    done
     [ -z "$times" ] || echo "- GB/s of data. Warm: one stripe again and again, best of seven. Cold: 64 MiB of stripes in turn," \
         "after $((others >> 20)) MiB of other memory were read, best of five."
     echo "- Instruction set: x86-64 with SSE2 for ours and for the same algorithm in C ($("$TOOLS/bin/clang" --version | head -n 1)," \
@@ -317,7 +298,6 @@ header() {
     echo "  Beside lost columns ec_encode_data: one by P, two by P and Q, with the tables of the inverse ready made; nothing is checked."
     echo "- Jerasure: RDP's bit matrix, smart schedules; its bytes are ours. Lost columns by jerasure_schedule_decode_cache with the"
     echo "  schedule ready made; lazy is jerasure_schedule_decode_lazy, which makes it in the call. Nothing is checked."
-    [ -z "$EMULATOR" ] || echo "  Above p = 17 its decoding is not counted: the emulator takes too long."
     echo "- snapraid: raid_scan beside bad column, a byte at a time by tables, on as many data blocks as the code has data columns and two"
     echo "  parities, with a middle block bad."
     echo "- Write: a data cell in the middle, with three dependent parity cells for RDP and two for the others. Write-many: one of EVENODD's"

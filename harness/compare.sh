@@ -31,8 +31,7 @@ if [ -n "$SAME" ]; then
     LIB=$BUILD/same.o
     kit_cc "$ROOT/harness/bench/same.c" "$LIB" -fhosted -I"$ROOT/include" -DAS_EXPORTS
 elif [ -z "$LIB" ]; then
-    LIB=$BUILD/libzijraduf.a
-    kit_rt staticlib/libzijraduf.a staticlib zijraduf
+    kit_lib
 fi
 kit_second
 kit_cc "$ROOT/harness/bridge.c" "$BUILD/bridge.o" -I"$ROOT/include"
@@ -41,4 +40,4 @@ kit_link "$BUILD/bridge" "$BUILD/bridge.o" "$LIB"
 # A call that faults is reported; it leaves no core file behind.
 ulimit -c 0 2>/dev/null || :
 # OPTIONS holds plain words only: left unquoted to be split.
-"$SECOND" $OPTIONS -- ${EMULATOR:+"$EMULATOR"} "$LOADER" --library-path "$TOOLS/lib" "$BUILD/bridge"
+"$SECOND" $OPTIONS -- "$LOADER" --library-path "$TOOLS/lib" "$BUILD/bridge"

@@ -4,9 +4,8 @@
 set -eu
 ROOT=$(cd "$(dirname "$0")/.." && pwd)
 . "$ROOT/harness/kit.sh"
-(cd "$ROOT" && rt check job) >&2
-WORK=$(mktemp -d)
-trap 'rm -rf "$WORK"' EXIT
+kit_room
+kit_job >&2
 
 # bytes HEX..: writes these bytes.
 bytes() {
@@ -62,9 +61,9 @@ grid() {
 # answer STRIPE LOST: has the program answer the job, and shows the stripe as it was found and as it came back.
 answer() {
     grid "$1" "$2" '(' ')'
-    job "$(spoiled "$1" "$2")" "$2" >"$WORK/job"
-    kit_run "$ROOT/target/bin/job" <"$WORK/job" >"$WORK/answer"
-    set -- "$2" $(od -An -v -tx1 "$WORK/answer")
+    job "$(spoiled "$1" "$2")" "$2" >"$BUILD/asked"
+    "$PROGRAM" <"$BUILD/asked" >"$BUILD/answer"
+    set -- "$2" $(od -An -v -tx1 "$BUILD/answer")
     lost=$1
     shift
     echo "    the program answers $((0x$4))"

@@ -16,7 +16,7 @@ case ${1:-} in
 --reach) list=yes ;;
 *) echo 'usage: harness/figures.sh [--reach]' >&2 && exit 2 ;;
 esac
-crates=$(sed -n 's/^ *\([A-Za-z_][A-Za-z0-9_]*\) *:.*/\1/p' ../crates.txt)
+crates=$(sed -n 's/^ *\([A-Za-z_][A-Za-z0-9_]*\)\( staticlib\)\{0,1\} *:.*/\1/p' ../crates.txt)
 
 # files FOLDER TEST..: the files of a folder, in order.
 files() {
@@ -37,8 +37,8 @@ functions() {
 row() {
     code=$(files "$1/src" -name '*.rt')
     definitions=$(files "$1/specs" -name '*.antt')
-    laws=$(files "$1/proofs" -name '*.antt' ! -name Proof.antt)
-    proofs=$(files "$1/proofs" -name Proof.antt)
+    laws=$(files "$1/proofs" -name '*.antt' ! -name Answers.antt ! -name Invariants.antt)
+    proofs=$(files "$1/proofs" -name Answers.antt -o -name Invariants.antt)
     edits=$(files "$1/must-fail" -name '*.edit' | wc -l)
     echo "| $1 | $(functions $code) | $(lines $code) | $(lines $definitions) | $(lines $laws) | $(lines $proofs) | $edits |"
 }

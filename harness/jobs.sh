@@ -25,13 +25,11 @@ done
 
 kit_room
 if [ -z "$PROGRAM" ]; then
-    PROGRAM=$BUILD/job
-    kit_rt bin/job check job >&2
+    kit_job >&2
 fi
 kit_second
 
 # A program that faults is reported; it leaves no core file behind.
 ulimit -c 0 2>/dev/null || :
 # One that doesn't end is ended. OPTIONS holds plain words only: left unquoted to be split.
-"$SECOND" --jobs "$JOBS" --stored "$ROOT/harness/stored" $OPTIONS -- timeout 60 \
-    ${EMULATOR:+"$EMULATOR"} "$LOADER" --library-path "$TOOLS/lib" "$PROGRAM"
+"$SECOND" --jobs "$JOBS" --stored "$ROOT/harness/stored" $OPTIONS -- timeout 60 "$PROGRAM"

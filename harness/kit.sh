@@ -1,16 +1,13 @@
 # The kit's own tools for x86-64 programs. To be sourced by a POSIX shell with
 # ROOT set to the top of the repository.
 #
-#   KIT, TOOLS        the kit, and its tools for this machine
-#   LOADER, EMULATOR  what starts an x86-64 program; EMULATOR is empty on x86-64
-#   BUILD             where build output goes: set it, or have kit_room make a folder
+#   KIT, TOOLS  the kit, and its tools
+#   LOADER      what starts a program that kit_link made
+#   BUILD       where build output goes: set it, or have kit_room make a folder
 
-KIT=$(rt doc)
-KIT=$(dirname "$(dirname "$KIT")")
-TOOLS=$KIT/on/$(uname -m)/toolchain
+KIT=$(dirname "$(rt doc)")
+TOOLS=$KIT/toolchain
 LOADER=$TOOLS/lib/ld-linux-x86-64.so.2
-EMULATOR=$TOOLS/bin/qemu-x86_64
-[ -x "$EMULATOR" ] || EMULATOR=
 
 # kit_room: makes BUILD a folder of this run alone, gone when the script ends.
 kit_room() {
@@ -19,18 +16,19 @@ kit_room() {
     trap 'exit 1' HUP INT TERM
 }
 
-# kit_rt FILE WORDS...: has rt make target/FILE, for one run at a time, and keeps a copy of
-# it in BUILD, where no other run builds.
-kit_rt() {
-    kit_file=$1
-    shift
-    mkdir -p "$ROOT/target"
-    (
-        cd "$ROOT"
-        flock 9
-        rt "$@" 9>&-
-        cp "target/$kit_file" "$BUILD"
-    ) 9>"$ROOT/target/building"
+# kit_lib: has rt prove and build the library for C, and keeps a copy of it in BUILD, where
+# no other run builds: LIB.
+kit_lib() {
+    (cd "$ROOT/crates/zijraduf" && rt lib)
+    LIB=$BUILD/libzijraduf.a
+    cp "$ROOT/crates/zijraduf/out/libzijraduf.a" "$LIB"
+}
+
+# kit_job: the same of the job program: PROGRAM. It is run once, on no input.
+kit_job() {
+    (cd "$ROOT/crates/job" && rt run </dev/null >/dev/null)
+    PROGRAM=$BUILD/job
+    cp "$ROOT/crates/job/out/job" "$PROGRAM"
 }
 
 # kit_second: makes SECOND the independent second program, built once for its sources. Runs
@@ -98,5 +96,5 @@ kit_link() {
 
 # kit_run PROGRAM [ARGS...]: runs a program made by kit_link.
 kit_run() {
-    ${EMULATOR:+"$EMULATOR"} "$LOADER" --library-path "$TOOLS/lib" "$@"
+    "$LOADER" --library-path "$TOOLS/lib" "$@"
 }

@@ -6,18 +6,18 @@
 # comments; with list=yes, before that, each of them with its lines, its file, and what reached it first. Rattle's own structs and enums
 # (specs.declared) and the kit's libraries are not followed. What can't be read is an error: nothing is left out in silence.
 #
-# A name is any run of characters but spaces and ( ) { } . ; , @ "; of an operator, as _⊕_, each part is a name too.
+# A name is any run of characters but spaces and ( ) { } . ; , @ "; of an operator, as ◌⊕◌, each part is a name too.
 
 function fail(message) { print "reach: " message > "/dev/stderr"; bad = 1; exit 1 }
 
-# The tokens of a text: names (a path a.b.c is one), brackets, = : ; , and "." where it ends binders. A projection .x is left out.
+# The tokens of a text: names (a path a.b.c is one, and so is x.f, a field), brackets, = : ; , and "." where it ends binders. A field of a bracket is left out.
 function tokens(text, tok,    n, before) {
     n = 0
     before = " "
     gsub(/«|»/, "", text)
     while (text != "") {
         if (match(text, /^[^ (){}.;,@"\t\n]+(\.[^ (){}.;,@"\t\n]+)*/)) tok[++n] = substr(text, 1, RLENGTH)
-        else if (match(text, /^\.[^ (){}.;,@"\t\n]+/) && before ~ /[ ({\t\n]/) ;
+        else if (match(text, /^\.[^ (){}.;,@"\t\n]+/) && before ~ /[ )}\t\n]/) ;
         else {
             RLENGTH = 1
             if (substr(text, 1, 1) !~ /[ \t\n@"]/) tok[++n] = substr(text, 1, 1)
@@ -31,21 +31,20 @@ function tokens(text, tok,    n, before) {
 # Makes a name, and each part of an operator, mean something in a file.
 function bring(table, file, name, what,    part, n, k) {
     table[file, name] = what
-    if (name !~ /_/) return
-    n = split(name, part, "_")
+    if (name !~ /◌/) return
+    n = split(name, part, "◌")
     for (k = 1; k <= n; k++) if (part[k] != "") table[file, part[k]] = what
 }
 
-# The file of a path Rattle·CRATE.specs.MODULE, or "" where the path leads to no definition of the repository.
+# The file of a path Rattle.CRATE.specs.MODULE, or "" where the path leads to no definition of the repository.
 function file_of(path,    part, n, k, crate, file) {
-    if (path !~ /^Rattle·/) return ""
+    if (path !~ /^Rattle\./) return ""
     n = split(path, part, ".")
-    crate = substr(part[1], length("Rattle·") + 1)
-    sub(/·(specs|proofs)$/, "", crate)
-    if (!(crate in crates) || part[3] == "declared") return ""
+    crate = part[2]
+    if (!(crate in crates) || part[4] == "declared") return ""
     file = crate
-    for (k = 2; k <= n; k++) file = file "/" part[k]
-    return n == 2 ? file "/Lib" : file
+    for (k = 3; k <= n; k++) file = file "/" part[k]
+    return n == 3 ? file "/Lib" : file
 }
 
 # A `use` line: PATH.{a, b as c}, PATH, or PATH as Q.
@@ -105,7 +104,7 @@ function resolve(file, word,    first, at) {
     at = index(word, ".")
     if (!at) return ""
     first = substr(word, 1, at - 1)
-    if (word ~ /^Rattle·/ || (file, first) in alias) return resolve_path(expand(file, word))
+    if (word ~ /^Rattle\./ || (file, first) in alias) return resolve_path(expand(file, word))
     return resolve(file, first)
 }
 
@@ -136,7 +135,7 @@ function follow(file, tok, from, to, by,    k, j, n, depth, binder, binds_at, ki
         else if (tok[k] == ",") continue
         else if (binder ~ /^(λ|∀|let)$/ && (depth == binds_at || typed[depth] == "")) bind(tok[k], binds_at)
         else if (k < to && (tok[k + 1] == "←" || (tok[k + 1] == "=" && binder == ""))) { if (kind[depth] != "{") bind(tok[k], depth) }
-        else if (!is_bound(tok[k])) reach(resolve(file, tok[k]), by)
+        else if (!is_bound(tok[k]) && !is_bound(substr(tok[k], 1, index(tok[k] ".", ".") - 1))) reach(resolve(file, tok[k]), by)
     }
 }
 
@@ -273,7 +272,7 @@ function exports(file,    tok, n, k, j, depth, used) {
         for (k = 2; k <= n; k++) {
             if (tok[k] ~ /.:$/) bind(substr(tok[k], 1, length(tok[k]) - 1), -1)
             if (tok[k] != "{") continue
-            if (tok[k - 1] !~ /^(ensures|requires)$/) break
+            if (tok[k - 1] !~ /^(ensures|requires)$/ && tok[k - 2] !~ /^(ensures|requires)$/) break
             depth = 1
             for (j = k + 1; j <= n && depth; j++) depth += (tok[j] == "{") - (tok[j] == "}")
             follow(file, tok, k + 1, j - 2, name)

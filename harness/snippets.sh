@@ -5,18 +5,19 @@
 #
 #   harness/snippets.sh [--lib FILE]
 #
-# Without --lib the library is the one that was built last; where there is none it is proved and built first.
+# Without --lib the library is proved and built first, as the job program is.
 set -eu
 ROOT=$(cd "$(dirname "$0")/.." && pwd)
 . "$ROOT/harness/kit.sh"
-LIB=$ROOT/target/staticlib/libzijraduf.a
+LIB=
 case ${1:-} in
-'') [ -f "$LIB" ] || (cd "$ROOT" && rt staticlib zijraduf) ;;
+'') ;;
 --lib) LIB=${2:?--lib wants a file} ;;
 *) echo 'usage: harness/snippets.sh [--lib FILE]' >&2; exit 2 ;;
 esac
-[ -f "$ROOT/target/bin/job" ] || (cd "$ROOT" && rt check job)
 kit_room
+[ -n "$LIB" ] || kit_lib >&2
+kit_job >&2
 
 # snippet KIND FILE: the README's block of a kind.
 snippet() {
@@ -44,8 +45,8 @@ grep -q -F "\`$line\`" "$ROOT/README.md" || { echo "README.md has not the line o
 echo "the Rattle snippets of README.md are parts of the example program"
 
 snippet shell "$BUILD/snippet.sh"
-job() { kit_run "$ROOT/target/bin/job"; }
-sed -i 's#target/bin/job#job#' "$BUILD/snippet.sh"
+job() { "$PROGRAM"; }
+sed -i 's#crates/job/out/job#job#' "$BUILD/snippet.sh"
 printed=$(. "$BUILD/snippet.sh")
 expected=$(sed -n '$s/^#//p' "$BUILD/snippet.sh")
 [ "$printed" = "$expected" ] || { echo "the job snippet printed$printed, not$expected" >&2; exit 1; }
