@@ -38,21 +38,17 @@ absent s known e = record { known = known; none = ap (without s.p) e; right = λ
 more : (p : ℕ) → listed p ≡ true → 1 < p
 more = each_prime (λ p. 1 < p) (omega arith) (omega arith) (omega arith) (omega arith) (omega arith) (omega arith) (omega arith) (omega arith) (omega arith) (omega arith)
 
--- for RDP the number p-1
-all_given : (s : Shape) → s.code ≡ 1 → s.width ≡ Data (s.p - 1) → Whole s
+-- for RDP a number m that leaves no data column out
+all_given : (s : Shape) (m : ℕ) → s.code ≡ 1 → s.width ≡ Data m → s.p - 1 - m ≡ 0 → (listed s.p ≡ true → (0 < m) × (m < s.p)) → Whole s
 unfolding missing
-all_given s rdp e =
+all_given s m rdp e left some =
     record {
       known = λ z. omega arith;
-      none = ap (without s.p) e ∙ none_left;
-      right = λ h. ap (wrong_data s.code s.p) e ∙ rw (eq-eqb s.code 1 rdp, ne_eqb (s.p - 1) 0 (some h), lt-leb s.p (s.p - 1) (omega (arith, more s.p h))) refl;
+      none = ap (without s.p) e ∙ left;
+      right = λ h.
+          let inside : (0 < m) × (m < s.p) = some h in
+          ap (wrong_data s.code s.p) e ∙ rw (eq-eqb s.code 1 rdp, ne_eqb m 0 (λ z. omega arith), lt-leb s.p m (omega arith)) refl;
     }
-  where
-    none_left : s.p - 1 - (s.p - 1) ≡ 0
-    none_left = omega arith
-
-    some : listed s.p ≡ true → s.p - 1 ≢ 0
-    some h z = omega (arith, more s.p h)
 
 -- ---- document 02, request 01
 
@@ -62,8 +58,9 @@ absent_as_before s known e = as_before s (absent s known e)
 
 -- with m = p-1 for RDP too
 pub all_as_before : (s : Shape) → s.code ≡ 1 → s.width ≡ Data (s.p - 1) → (c : Call) → Allowed s c ↔ Allowed01 (full s) c
-all_as_before s rdp e = as_before s (all_given s rdp e)
+all_as_before s rdp e = as_before s (all_given s (s.p - 1) rdp e (omega arith) (λ h. (omega (arith, more s.p h), omega (arith, more s.p h))))
 
 -- so m = p-1 gives the same as m absent
 pub all_as_absent : (s : Shape) → s.code ≡ 1 → s.width ≡ Data (s.p - 1) → (c : Call) → Allowed s c ↔ Allowed (full s) c
-all_as_absent s rdp e c = Iff.trans (all_as_before s rdp e c) (Iff.symm (absent_as_before (full s) (λ z. omega arith) refl c))
+all_as_absent s rdp e c =
+    Iff.trans (as_before s (all_given s (s.p - 1) rdp e (omega arith) (λ h. (omega (arith, more s.p h), omega (arith, more s.p h)))) c) (Iff.symm (absent_as_before (full s) (λ z. omega arith) refl c))
