@@ -16,8 +16,7 @@
 #   --lib FILE    measures FILE in place of what `rt lib` makes in crates/zijraduf
 #   --keep FOLDER leaves the driver and the figures there
 #
-# x86-64: instructions by perf or valgrind, and GB/s. Arm: instructions, by the kit's
-# emulator; its times would say nothing.
+# Instructions by perf or valgrind, and GB/s.
 set -eu
 ROOT=$(cd "$(dirname "$0")/.." && pwd)
 

@@ -1,5 +1,5 @@
 -- Where the cells of a stripe lie: the places of those that exist are inside the stripe, apart from each other, and fill it.
--- All of this follows from five laws of the map between columns and where they lie (`column-there` to `column-lies`).
+-- All of this follows from five laws of the map between columns and where they lie (`column_there` to `column_lies`).
 use mathlib.Core.Path.{◌≡◌, refl, sym, ap, ap₂, ◌∙◌, subst}
 use mathlib.Core.Logic.{◌≢◌, ◌⊎◌}
 use mathlib.Core.List.{List}

@@ -10,7 +10,7 @@ pub record Carried (j : Job) (output : List ℕ) : Type 0 where
   pub rebuilds : RebuildsCells (shape_of j) j.lost j.stripe answer stripe
   pub says : output ≡ answer_bytes answer stripe
 
--- the output is the answer to the input: to the job whose bytes these are; or noJobRefusal where they are no job's
+-- the output is the answer to the input: to the job whose bytes these are; or no_job_refusal where they are no job's
 pub data Answers (input output : List ℕ) : Type 0 where
   carried : (j : Job) → Fits j → job_bytes j ≡ input → Carried j output → Answers input output
   no_job : ((j : Job) → Fits j → job_bytes j ≡ input → ⊥) → output ≡ answer_bytes no_job_refusal [] → Answers input output

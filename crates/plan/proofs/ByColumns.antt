@@ -155,7 +155,7 @@ module _ (s : Shape) (k plan : ℕ) (of : RdpColumn s k) (accepted : is_accepted
         rows_all : all ≡ 2 ^ rows s - 1
         rows_all = every ∙ ap (λ (n : ℕ). 2 ^ n - 1) (last_row s k of)
 
-    -- of another below p as surviving-reads has it
+    -- of another below p as surviving_reads has it
     pub count_below : (turn : ℕ) → (l : j < s.p) → turn ≡ (j + (s.p - k)) % s.p
         → s.p - 1 - ones plan + ones (bit_and (bit_or plan up / 2 ^ turn) plan) ≡ column_reads s k plan j
     count_below turn l e = ap (◌+◌ (s.p - 1 - ones plan)) both ∙ sym (surviving_reads j at.column at.there other l)

@@ -9,7 +9,7 @@ use Rattle.show.specs.declared.ShownAt.{ShownAt}
 use Rattle.show.specs.declared.ShownAt.TheVariants.{Stripe, Spare, Refused}
 use Rattle.show.specs.Refusals.{show_faults}
 
--- bytes that a caller lent or is lent: a block of memory, the place in it where they start, and the bytes; the proofs' own name of them is no part of it
+-- bytes that a caller lent or is lent: a block of memory, the place in it where they start, and the bytes
 abbrev pub Lent : Type 0
 Lent = Bor (List ℕ)
 
