@@ -23,6 +23,7 @@ use Rattle.codes.proofs.Shapes.{rows_low}
 use Rattle.codes.proofs.Positions.{row_is, column_is, cell_is, cell_inside}
 use Rattle.codes.proofs.Solutions.{plus, total_plus, total_zero, zero_total, total_holds}
 use Rattle.columns.proofs.Alone.{lowest_there, lowest_alone}
+use Rattle.std.specs.Prelude.{None, Some}
 use Rattle.bad.specs.Candidate.{Explains, TotalsOf, Without, Candidate}
 
 -- the value of each row in the cells of column c, and 0 elsewhere
@@ -133,13 +134,9 @@ module _ (s : Shape) (w : WellFormed s) (c : ℕ) (lc : c < disks s) (column : �
   none_more next q one before lq left f t d l e =
       by_equal d c (λ same. left (explained_zero s w column there f totals rest t h (subst (Explains s f) (ap (column_of s) same ∙ sym is) e) q lq)) (λ n. before f t d (omega arith) e)
 
-  pub candidate_here : (r : ℕ) → r ≡ c → ((q : ℕ) → q < equations s → get_or rest q 0 ≡ 0) → Candidate s totals r
+  pub candidate_here : (r : ℕ) → r ≡ c → ((q : ℕ) → q < equations s → get_or rest q 0 ≡ 0) → Candidate s totals (Some r)
   candidate_here r same zero =
-      subst (Candidate s totals) (sym same) (record { most = omega arith; found = λ f t l. subst (Explains s f) is (explains_by s w column there f totals rest t h zero); none = λ f t l. absurd (omega arith) })
+      subst (λ (d : ℕ). Candidate s totals (Some d)) (sym same) (lc, λ f t. subst (Explains s f) is (explains_by s w column there f totals rest t h zero))
 
-pub candidate_none : (s : Shape) (totals : List ℕ) (c : ℕ) → c ≡ disks s → NoneBelow s totals c → Candidate s totals c
-candidate_none s totals c e before = record {
-  most = omega arith;
-  found = λ f t l. absurd (omega arith);
-  none = λ f t l d ld x. before f t d (omega arith) x;
-}
+pub candidate_none : (s : Shape) (totals : List ℕ) (c : ℕ) → c ≡ disks s → NoneBelow s totals c → Candidate s totals None
+candidate_none s totals c e before f t d ld x = before f t d (omega arith) x

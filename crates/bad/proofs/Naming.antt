@@ -21,7 +21,6 @@ use Rattle.codes.specs.declared.Shape.{Shape}
 use Rattle.codes.specs.Shape.{rows, columns, cells, disks, equations, stripe_length, WellFormed}
 use Rattle.codes.specs.Geometry.{is_there, cell_there, column_of, lies_at, cell_of}
 use Rattle.codes.specs.Encoded.{parity_cell, sums_cell, byte_at, sum_over, total, Solves, Encoded}
-use Rattle.refusals.specs.Refusals.{refusal, stripe_faults}
 use Rattle.codes.specs.Agree.{in_columns}
 use Rattle.codes.proofs.Geometry.{column_there, is_there_lem, lies_column, byte_missing, byte_small}
 use Rattle.codes.proofs.Solutions.{total_zero, zero_total, solves_same}
@@ -33,8 +32,9 @@ use Rattle.decide.specs.Solver.{mended, OnlyThere, Solver}
 use Rattle.decide.proofs.Determined.{kept_cell, columns_determined}
 use Rattle.lanes.specs.Lanes.{Passes}
 use Rattle.bad.specs.declared.BadColumn.{BadColumn}
-use Rattle.bad.specs.declared.BadColumn.TheVariants.{Clean, Column, Unexplained, Refused}
-use Rattle.bad.specs.Bad.{Replaceable, Finding, Finds}
+use Rattle.bad.specs.declared.BadColumn.TheVariants.{Clean, Column, Unexplained}
+use Rattle.bad.specs.Bad.{Replaceable, Finding}
+use Rattle.std.specs.Prelude.{Option, None, Some}
 use Rattle.bad.specs.Candidate.{Explains, TotalsOf, Candidate, ExplainsIn, CleanIn, FindingIn}
 use Rattle.bad.proofs.OneBad.{one_explains}
 
@@ -49,8 +49,8 @@ module _ (s : Shape) (w : WellFormed s) (stripe : List ℕ) (at n : ℕ) where
   explains_one : (c : ℕ) → ExplainsIn s stripe at n c → (i : ℕ) → i < n → Explains s (bytes_at s stripe (at + i)) c
   explains_one c h i l = record { inside = h.inside; mended = h.mended i; solves = h.solves i l; agree = h.agree i l }
 
-  -- what is known of the candidate c: it was sought at a byte in which an equation fails
-  pub record Sought (c : ℕ) : Type 0 where
+  -- what is known of the candidate: it was sought at a byte in which an equation fails
+  pub record Sought (given : Option ℕ) : Type 0 where
     pub q : ℕ
     pub i : ℕ
     pub there : q < equations s
@@ -58,26 +58,29 @@ module _ (s : Shape) (w : WellFormed s) (stripe : List ℕ) (at n : ℕ) where
     pub fails : total s q (bytes_at s stripe (at + i)) ≢ 0
     pub totals : List ℕ
     pub of : TotalsOf s (bytes_at s stripe (at + i)) totals
-    pub candidate : Candidate s totals c
+    pub candidate : Candidate s totals given
 
-  module _ (c : ℕ) (h : Sought c) where
+  module _ (given : Option ℕ) (h : Sought given) where
     not_clean : CleanIn s stripe at n → ⊥
     not_clean clean = h.fails (total_zero s h.q (bytes_at s stripe (at + h.i)) (clean h.i h.inside h.q h.there))
 
-    pub named_column : c < disks s → (column : ℕ) → column ≡ column_of s c → ExplainsIn s stripe at n column → FindingIn s stripe at n (Column c)
-    named_column l column e x = (not_clean, l, subst (ExplainsIn s stripe at n) e x)
+    pub named_column : (c : ℕ) → c < disks s → (column : ℕ) → column ≡ column_of s c → ExplainsIn s stripe at n column → FindingIn s stripe at n (Column c)
+    named_column c l column e x = (not_clean, l, subst (ExplainsIn s stripe at n) e x)
 
-    pub none_named : c ≡ disks s → FindingIn s stripe at n Unexplained
-    none_named e = (not_clean, λ d ld x. h.candidate.none (bytes_at s stripe (at + h.i)) h.of (omega arith) d ld (explains_one (column_of s d) x h.i h.inside))
+    pub none_named : given ≡ None → FindingIn s stripe at n Unexplained
+    none_named e =
+        let none = subst (Candidate s h.totals) e h.candidate in
+        (not_clean, λ d ld x. none (bytes_at s stripe (at + h.i)) h.of d ld (explains_one (column_of s d) x h.i h.inside))
 
-    pub not_this : c < disks s → (column : ℕ) → column ≡ column_of s c → (ExplainsIn s stripe at n column → ⊥) → FindingIn s stripe at n Unexplained
-    not_this l column is no' = (
-      not_clean,
-      λ d ld x. by_equal c d (λ e. no' (subst (ExplainsIn s stripe at n) (ap (column_of s) (sym e) ∙ sym is) x))
-          (λ e. h.fails (total_zero s h.q (bytes_at s stripe (at + h.i))
-          (one_explains s w (bytes_at s stripe (at + h.i)) (column_of s c) (column_of s d) (h.candidate.found (bytes_at s stripe (at + h.i)) h.of l) (explains_one (column_of s d) x h.i h.inside)
-          (λ same. e (sym (lies_column s w c) ∙ ap (lies_at s) same ∙ lies_column s w d)) h.q h.there))),
-    )
+    pub not_this : (c : ℕ) → given ≡ Some c → (column : ℕ) → column ≡ column_of s c → (ExplainsIn s stripe at n column → ⊥) → FindingIn s stripe at n Unexplained
+    not_this c gave column is no' =
+        let found = subst (Candidate s h.totals) gave h.candidate in (
+          not_clean,
+          λ d ld x. by_equal c d (λ e. no' (subst (ExplainsIn s stripe at n) (ap (column_of s) (sym e) ∙ sym is) x))
+              (λ e. h.fails (total_zero s h.q (bytes_at s stripe (at + h.i))
+              (one_explains s w (bytes_at s stripe (at + h.i)) (column_of s c) (column_of s d) (found.1 (bytes_at s stripe (at + h.i)) h.of) (explains_one (column_of s d) x h.i h.inside)
+              (λ same. e (sym (lies_column s w c) ∙ ap (lies_at s) same ∙ lies_column s w d)) h.q h.there))),
+        )
 
 -- ---- whether one column explains the bytes
 
@@ -210,14 +213,6 @@ module _ (s : Shape) (w : WellFormed s) (stripe : List ℕ) (long : length strip
   finding_whole Clean h = whole_clean h
   finding_whole (Column d) h = (λ e. h.0 (clean_whole e), replaced_by d h.1 h.2)
   finding_whole Unexplained h = (λ e. h.0 (clean_whole e), λ d r. h.1 d r.inside (explains_whole d r))
-  finding_whole (Refused number) h = absurd h
-
--- an accepted stripe's finding
-pub finding_so : (s : Shape) (stripe : List ℕ) (answer : BadColumn) → 0 ≡ refusal (stripe_faults s (length stripe)) → Finding s stripe answer → Finds s stripe answer
-finding_so s stripe Clean right h = record { number = right; finding = λ z. h }
-finding_so s stripe (Column c) right h = record { number = right; finding = λ z. h }
-finding_so s stripe Unexplained right h = record { number = right; finding = λ z. h }
-finding_so s stripe (Refused number) right h = absurd h
 
 -- the first that passes is there, unless it is past the last
 pub first_below : (n : ℕ) (test : ℕ → Bool) (r m : ℕ) → IsLowest n test r → m ≡ n → r ≢ m → (r < n) × (test r ≡ true)

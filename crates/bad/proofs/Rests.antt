@@ -2,10 +2,10 @@
 use mathlib.Core.Path.{◌≡◌, refl, sym, ap, ap₂, ◌∙◌, subst}
 use mathlib.Core.Logic.{◌≢◌}
 use mathlib.Core.List.{List}
-use mathlib.Core.Bool.{Bool, true, false, cond, not, ◌&&◌, and-true, and-false}
-use Prim.Native.Nat.{ℕ, ◌+◌, ◌-◌, ◌≤◌, ◌<◌}
+use mathlib.Core.Bool.{Bool, true, false, cond, ◌&&◌}
+use Prim.Native.Nat.{ℕ, ◌+◌, ◌≤◌, ◌<◌}
 use native.Mathlib.Omega.{arith}
-use lib.Bits.{bit_xor, bit_and}
+use lib.Bits.{bit_xor}
 use lib.Dec.{eqb, ltb}
 use lib.ListN.{length, get_or, set}
 use lib.Seq.{get_or-set_same, get_or-set_other}
@@ -16,12 +16,12 @@ use Rattle.xor.proofs.Algebra.{⊕_is, ⊕_zero, ⊕_assoc}
 use Rattle.xor.proofs.Sums.{xors_none, xors_more, xors_same}
 use Rattle.bits.specs.Bit.{bit, IsLowest}
 use Rattle.bits.proofs.Bits.{bit_zero}
-use Rattle.bits.proofs.Masks.{clear_lowest}
 use Rattle.codes.specs.declared.Shape.{Shape}
 use Rattle.codes.specs.Shape.{cells, equations, cell_number, WellFormed}
 use Rattle.codes.specs.Holders.{holds, HeldBy}
 use Rattle.codes.proofs.Depends.{held_some}
 use Rattle.solve.specs.Masked.{Added}
+use Rattle.solve.proofs.Turns.{added_mask}
 use Rattle.bad.specs.Candidate.{Without}
 
 -- ---- one entry
@@ -37,25 +37,6 @@ filled_more f old q x l before here k lk =
 added : (b : Bool) (a x : ℕ) → cond b (bit_xor a x) a ≡ a ⊕ cond b x 0
 added true a x = sym (⊕_is a x)
 added false a x = sym (⊕_zero a)
-
--- x XORed into the lowest member's entry, and then into the others'
-pub added_first : (old next : List ℕ) (m low x : ℕ) → low < 64 → IsLowest 64 (λ k. bit k m) low → length old ≡ 64
-    → Added (set old low (bit_xor (get_or old low 0) x)) (bit_and m (m - 1)) x next → Added old m x next
-added_first old next m low x l lowest long h = record {
-  long = h.long;
-  mask = λ r lr. h.mask r lr ∙ ap (λ (b : Bool). cond b (bit_xor (at r) x) (at r)) (others r) ∙ by_equal r low
-      (λ e. ap (λ (b : Bool). cond (bit r m && not b) (bit_xor (at r) x) (at r)) (eq-eqb r low e)
-      ∙ ap (λ (b : Bool). cond b (bit_xor (at r) x) (at r)) (and-false (bit r m)) ∙ ap at e ∙ get_or-set_same old low (bit_xor (get_or old low 0) x) 0 (omega arith)
-      ∙ ap (λ (k : ℕ). bit_xor (get_or old k 0) x) (sym e) ∙ sym (ap (λ (b : Bool). cond b (bit_xor (get_or old r 0) x) (get_or old r 0)) (ap (λ (k : ℕ). bit k m) e ∙ lowest.passes l)))
-      (λ n. ap (λ (b : Bool). cond (bit r m && not b) (bit_xor (at r) x) (at r)) (ne_eqb r low n) ∙ ap (λ (b : Bool). cond b (bit_xor (at r) x) (at r)) (and-true (bit r m))
-      ∙ ap (λ (y : ℕ). cond (bit r m) (bit_xor y x) y) (get_or-set_other old low r (bit_xor (get_or old low 0) x) 0 n));
-}
-  where
-    at : ℕ → ℕ
-    at r = get_or (set old low (bit_xor (get_or old low 0) x)) r 0
-
-    others : (r : ℕ) → bit r (bit_and m (m - 1)) ≡ (bit r m && not (eqb r low))
-    others = clear_lowest 64 m low lowest l
 
 module _ (s : Shape) (w : WellFormed s) (c m : ℕ) (inside : c < cells s) (held : HeldBy s c m) where
   -- some equation holds the cell
@@ -87,7 +68,7 @@ module _ (s : Shape) (totals : List ℕ) (column : ℕ) where
   }
 
   -- the cell in row i takes in x, the total of the lowest equation that holds it
-  pub without_more : (i x m low : ℕ) (rest next : List ℕ) → equations s ≤ 64 → Without s totals column i rest → HeldBy s (cell_number s i column) m
+  pub without_more : (i x m low : ℕ) (rest next : List ℕ) → equations s ≤ length rest → Without s totals column i rest → HeldBy s (cell_number s i column) m
       → IsLowest (equations s) (λ k. holds s k (cell_number s i column)) low → x ≡ get_or totals low 0 → Added rest m x next → Without s totals column (i + 1) next
   without_more i x m low rest next few before held lowest total put = record {
     value = value;
@@ -95,7 +76,7 @@ module _ (s : Shape) (totals : List ℕ) (column : ℕ) where
         (λ e. (low, subst (λ (k : ℕ). IsLowest (equations s) (λ r. holds s r (cell_number s k column)) low) (sym e) lowest, here j e ∙ total))
         (λ n. let found = before.by j (omega arith) in (found.0, found.1, other j n ∙ found.2));
     left = λ q l.
-        put.mask q (omega arith) ∙ added (bit q m) (get_or rest q 0) x
+        added_mask rest m x next put q (omega arith) ∙ added (bit q m) (get_or rest q 0) x
         ∙ ap₂ ◌⊕◌ (before.left q l) (ap (λ (b : Bool). cond b x 0) (held.bits q ∙ ap (λ (b : Bool). b && holds s q (cell_number s i column)) (lt-ltb q (equations s) l)) ∙ own q)
         ∙ ⊕_assoc (get_or totals q 0) (xors i (part q before.value)) (part q value i)
         ∙ ap (λ (y : ℕ). get_or totals q 0 ⊕ y)

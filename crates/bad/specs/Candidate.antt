@@ -1,6 +1,6 @@
 -- The search for the column that could explain what fails: in one byte, on the values that it has in each cell and the totals of the equations over
 -- them; then in all bytes that are looked at.
-use Rattle.std.specs.Prelude.{◌≡◌, ◌≢◌, List, cond, ℕ, ◌+◌, ◌/◌, ◌≤◌, ◌<◌, get_or}
+use Rattle.std.specs.Prelude.{◌≡◌, ◌≢◌, List, cond, ℕ, ◌+◌, ◌/◌, ◌≤◌, ◌<◌, get_or, Option, MatchOption}
 use Rattle.xor.specs.Xor.{◌⊕◌, xors}
 use Rattle.bits.specs.Bit.{IsLowest}
 use Rattle.codes.specs.declared.Shape.{Shape}
@@ -10,7 +10,7 @@ use Rattle.codes.specs.Encoded.{byte_at, total, Solves}
 use Rattle.codes.specs.Holders.{holds}
 use Rattle.equation.specs.Window.{bytes_at}
 use Rattle.bad.specs.declared.BadColumn.{BadColumn}
-use Rattle.bad.specs.declared.BadColumn.TheVariants.{Clean, Column, Unexplained, Refused}
+use Rattle.bad.specs.declared.BadColumn.TheVariants.{Clean, Column, Unexplained}
 
 -- column c explains the values f: some solution agrees with f off column c
 pub record Explains (s : Shape) (f : ℕ → ℕ) (c : ℕ) : Type 0 where
@@ -29,11 +29,10 @@ pub record Without (s : Shape) (totals : List ℕ) (column n : ℕ) (rest : List
   pub by : (i : ℕ) → i < n → (q : ℕ) × IsLowest (equations s) (λ k. holds s k (cell_number s i column)) q × (value i ≡ get_or totals q 0)
   pub left : (q : ℕ) → q < equations s → get_or rest q 0 ≡ get_or totals q 0 ⊕ xors n (λ i. cond (holds s q (cell_number s i column)) (value i) 0)
 
--- r is the place of a column that explains any values with these totals; or it is the number of disks, and none that exists explains them
-pub record Candidate (s : Shape) (totals : List ℕ) (r : ℕ) : Type 0 where
-  pub most : r ≤ disks s
-  pub found : (f : ℕ → ℕ) → TotalsOf s f totals → r < disks s → Explains s f (column_of s r)
-  pub none : (f : ℕ → ℕ) → TotalsOf s f totals → disks s ≤ r → (d : ℕ) → d < disks s → Explains s f (column_of s d) → ⊥
+-- what is given is the place of a column that explains any values with these totals; where nothing is, none that exists explains them
+abbrev pub Candidate : Shape → List ℕ → Option ℕ → Type 0
+Candidate s totals given = MatchOption given ((f : ℕ → ℕ) → TotalsOf s f totals → (d : ℕ) → d < disks s → Explains s f (column_of s d) → ⊥)
+    (λ d. (d < disks s) × ((f : ℕ → ℕ) → TotalsOf s f totals → Explains s f (column_of s d)))
 
 -- ---- n bytes of each cell, from byte `at` on
 
@@ -53,4 +52,3 @@ abbrev pub FindingIn : Shape → List ℕ → ℕ → ℕ → BadColumn → Type
 FindingIn s stripe at n Clean = CleanIn s stripe at n
 FindingIn s stripe at n (Column d) = (CleanIn s stripe at n → ⊥) × (d < disks s) × ExplainsIn s stripe at n (column_of s d)
 FindingIn s stripe at n Unexplained = (CleanIn s stripe at n → ⊥) × ((d : ℕ) → d < disks s → ExplainsIn s stripe at n (column_of s d) → ⊥)
-FindingIn s stripe at n (Refused number) = ⊥

@@ -2,54 +2,38 @@
 // done is refused by its number.
 #![tactic(auto)]
 
-ghost use Rattle.std.specs.Prelude.{◌≡◌, true, ◌<◌, length};
+ghost use Rattle.std.specs.Prelude.{◌≡◌, true, ◌<◌};
 ghost use Rattle.xor.specs.Runs.{Says};
-ghost use Rattle.codes.specs.Shape.{rows, columns, equations, stripe_length, WellFormed};
+ghost use Rattle.codes.specs.Shape.{rows, columns, equations, WellFormed};
 ghost use Rattle.codes.specs.Geometry.{is_there};
-ghost use Rattle.solve.specs.Masked.{Added};
-ghost use Rattle.equation.specs.Window.{bytes_at, Window, fails_in};
+ghost use Rattle.equation.specs.InWindow.{bytes_in, is_failing};
 ghost use Rattle.bad.specs.Bad.{Finds};
 ghost use Rattle.bad.specs.Candidate.{TotalsOf, Without, Candidate, ExplainsIn, FindingIn};
 
 use codes::Shape;
-use decide::Decided;
+use equation::Window;
+use refusals::Refusal;
 
-// What bad column answers: the stripe is encoded; the one column whose replacement makes it encoded; neither; or a refusal number.
-#[derive(Clone, Copy)]
+// What bad column finds: the stripe is encoded; the one column whose replacement makes it encoded; or neither.
+#[derive(Clone, Copy, Debug, PartialEq, Eq)]
 pub enum BadColumn {
     Clean,
     Column(usize),
     Unexplained,
-    Refused(usize),
 }
 
-// The totals of all equations in byte t.
-fn totals_at(shape: Shape, stripe: &[u8], t: usize) -> [u8; bits::ROOM]
-    requires { WellFormed shape × (length stripe.now ≡ stripe_length shape) × (t < shape.cell) }
-    ensures { TotalsOf shape (bytes_at shape stripe.now t) result }
+// The totals of all equations in byte i of the window.
+fn totals_at(window: &Window, i: usize) -> [u8; bits::ROOM]
+    requires { i < window.now.n }
+    ensures { TotalsOf window.now.shape (bytes_in window.now i) result }
 {
-    let n = codes::equation_count(shape);
-    let shared = equation::shared_byte(shape, stripe, t);
+    let n = codes::equation_count(window.shape);
+    let shared = window.shared_byte(i);
     let mut totals = [0u8; bits::ROOM];
-    let mut q = 0;
-    while q < n {
-        totals[q] = equation::total_byte(shape, stripe, q, t, shared);
-        q += 1;
+    for q in 0..n {
+        totals[q] = window.total_byte(q, i, shared);
     }
     totals
-}
-
-// XORs x into the totals of the equations in a set.
-fn add_to(totals: &mut [u8; bits::ROOM], set: u64, x: u8)
-    requires { length totals.old ≡ 64 }
-    ensures { Added totals.old set x totals.new }
-{
-    let mut rest = set;
-    while rest != 0 {
-        let q = bits::lowest_bit(rest) as usize;
-        totals[q] = totals[q] ^ x;
-        rest = rest & (rest - 1);
-    }
 }
 
 // What is left of the totals when each cell of a column takes in the total of the lowest equation that holds it.
@@ -60,20 +44,18 @@ fn without_column(shape: Shape, totals: [u8; bits::ROOM], column: usize) -> [u8;
 {
     let rows = codes::row_count(shape);
     let mut rest = totals;
-    let mut i = 0;
-    while i < rows {
+    for i in 0..rows {
         let held = codes::holders_of(shape, i, column);
         let first = bits::lowest_bit(held) as usize;
         let x = totals[first];
-        rest[first] = rest[first] ^ x;
-        add_to(&mut rest, held & (held - 1), x);
-        i += 1;
+        solve::add_to(&mut rest, held, x);
     }
     rest
 }
 
-// The place of the first column without which nothing is left of the totals; the number of disks where there is none.
-fn candidate(shape: Shape, totals: [u8; bits::ROOM]) -> usize
+// The place of the first column without which nothing is left of the totals. A labelled loop, left by `break` with the column: the project's
+// rules name this form here.
+fn candidate(shape: Shape, totals: [u8; bits::ROOM]) -> Option<usize>
     requires { WellFormed shape }
     ensures { Candidate shape totals result }
 {
@@ -82,77 +64,67 @@ fn candidate(shape: Shape, totals: [u8; bits::ROOM]) -> usize
     let mut d = 0;
     let found = 'columns: loop {
         if d == disks {
-            break 'columns d;
+            break 'columns None;
         }
         let rest = without_column(shape, totals, codes::column_of(shape, d));
-        let mut q = 0;
-        while q < equations {
+        for q in 0..equations {
             if rest[q] != 0 {
                 d += 1;
                 continue 'columns;
             }
-            q += 1;
         }
-        break 'columns d;
+        break 'columns Some(d);
     };
     found
 }
 
-// Whether one column that exists alone explains n bytes of the stripe from byte `at` on.
-fn column_agrees(shape: Shape, stripe: &[u8], column: usize, at: usize, n: usize) -> bool
-    requires { Window shape stripe.now at n × (column < columns shape) × (is_there shape column ≡ true) }
-    ensures { Says (ExplainsIn shape stripe.now at n column) result }
+// Whether one column that exists alone explains the window.
+fn column_agrees(window: &Window, column: usize) -> bool
+    requires { (column < columns window.now.shape) × (is_there window.now.shape column ≡ true) }
+    ensures { let w = window.now in Says (ExplainsIn w.shape w.stripe.now w.at w.n column) result }
 {
-    let map = decide::mark_columns(shape, column, column);
-    let mut listed = [0usize; bits::ROOM];
-    let mut sets = [0u64; bits::ROOM];
+    let map = decide::mark_columns(window.shape, column, column);
+    let mut lost = [decide::NO_CELL; bits::ROOM];
     let mut checks = [0u64; bits::ROOM];
-    let d = decide::decide(shape, map, &mut listed, &mut sets, &mut checks);
-    let Decided::Solved { lost: _, checks: v } = d else {
+    let Some(way) = decide::decide(window.shape, map, &mut lost, &mut checks) else {
         return false;
     };
     let mut lanes = [0u8; lanes::LANES];
-    lanes::survivors_agree(shape, stripe, &checks, v, at, n, &mut lanes)
+    lanes::survivors_agree(window, way.checks, &mut lanes)
 }
 
-// The bad column of n bytes from byte `at` on, in one of which equation q fails. At the first byte in which it does at most one column can
+// The bad column of a window, in which equation q fails. At the first byte in which it does at most one column can
 // explain what fails, and that one is then held to all of them.
-fn name_column(shape: Shape, stripe: &[u8], q: usize, at: usize, n: usize) -> BadColumn
-    requires { Window shape stripe.now at n × (q < equations shape) × (fails_in shape stripe.now q at n ≡ true) }
-    ensures { FindingIn shape stripe.now at n result }
+fn name_column(window: &Window, q: usize) -> BadColumn
+    requires { (q < equations window.now.shape) × (is_failing window.now q ≡ true) }
+    ensures { let w = window.now in FindingIn w.shape w.stripe.now w.at w.n result }
 {
-    let i = equation::failing_byte(shape, stripe, q, at, n);
-    let totals = totals_at(shape, stripe, at + i);
-    let d = candidate(shape, totals);
-    if d == codes::disk_count(shape) {
+    let i = window.failing_byte(q);
+    let totals = totals_at(window, i);
+    let Some(d) = candidate(window.shape, totals) else {
         return BadColumn::Unexplained;
-    }
-    if column_agrees(shape, stripe, codes::column_of(shape, d), at, n) {
+    };
+    if column_agrees(window, codes::column_of(window.shape, d)) {
         return BadColumn::Column(d);
     }
     BadColumn::Unexplained
 }
 
-// What is found in n bytes of each cell, from byte `at` on.
-fn find(shape: Shape, stripe: &[u8], at: usize, n: usize) -> BadColumn
-    requires { Window shape stripe.now at n }
-    ensures { FindingIn shape stripe.now at n result }
+// What is found in a window.
+fn find(window: &Window) -> BadColumn
+    ensures { let w = window.now in FindingIn w.shape w.stripe.now w.at w.n result }
 {
-    let q = equation::first_failing(shape, stripe, at, n);
-    if q == codes::equation_count(shape) {
-        return BadColumn::Clean;
+    match window.first_failing() {
+        None => BadColumn::Clean,
+        Some(q) => name_column(window, q),
     }
-    name_column(shape, stripe, q, at, n)
 }
 
 // Bad column: clean if the stripe is encoded; else the one column whose replacement alone makes it encoded; else unexplained.
 // It only reads. Refusals 1, 2, 14, 4 and 5.
-pub fn bad_column(shape: Shape, stripe: &[u8]) -> BadColumn
+pub fn bad_column(shape: Shape, stripe: &[u8]) -> Result<BadColumn, Refusal>
     ensures { Finds shape stripe.now result }
 {
-    let number = refusals::stripe_refusal(shape, stripe.len());
-    if number != 0 {
-        return BadColumn::Refused(number);
-    }
-    find(shape, stripe, 0, shape.cell)
+    refusals::check_stripe(shape, stripe.len())?;
+    Ok(find(&Window::whole(shape, stripe)))
 }

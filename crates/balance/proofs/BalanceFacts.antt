@@ -15,8 +15,8 @@ use Rattle.codes.specs.Shape.{rows}
 use Rattle.refusals.specs.Refusals.{refusal}
 use Rattle.codes.proofs.Geometry.{there_all, column_all}
 use Rattle.codes.proofs.Lines.{rdp_columns}
-use Rattle.plan.specs.declared.PlanAnswer.{PlanAnswer}
-use Rattle.plan.specs.declared.PlanAnswer.TheVariants.{Plan}
+use Rattle.std.specs.Prelude.{Result, Ok}
+use Rattle.refusals.specs.declared.reason.Refusal.{Refusal}
 use Rattle.plan.specs.Plan.{column_reads, cells_read, TakesRows, is_accepted}
 use Rattle.plan.specs.Right.{RdpColumn}
 use Rattle.plan.proofs.Column.{last_row}
@@ -24,6 +24,7 @@ use Rattle.plan.proofs.Accepted.{accepted_alike, plan_low}
 use Rattle.plan.proofs.ByColumns.{pairs, surviving_reads}
 use Rattle.plan.proofs.PlanReads.{last_surviving}
 use Rattle.plan.proofs.PlanFacts.{even_rows, half_reads, reads_least}
+use Rattle.plan.specs.declared.ReadPlan.{ReadPlan}
 use Rattle.plan.proofs.Planning.{same_rows, plan_given, plans_one}
 use Rattle.balance.specs.Balance.{fits, shift, by_balance}
 use Rattle.balance.specs.Right.{Balanceable}
@@ -104,7 +105,7 @@ few {p} l = let most : p - 1 ≤ 30 = omega arith in lt_of_le_of_lt (mul-le-mul 
 
 -- the plan of the table with three quarters of (p-1)² reads
 pub balance_given : (s : Shape) (k : ℕ) → Balanceable s k → (taken : ℕ) → refusal (balance_faults s k) ≡ 0 → taken ≡ plan_at s.p k
-    → Balances s k (Plan (record { rows = taken; reads = 3 * (s.p - 1) * (s.p - 1) / 4 }))
+    → Balances s k (Ok (record { rows = taken; reads = 3 * (s.p - 1) * (s.p - 1) / 4 }))
 balance_given s k b taken none e =
     plan_given s k (by_balance s) (balance_faults s k) k taken (3 * (s.p - 1) * (s.p - 1) / 4) none (sym (column_all s b.full k)) ruled
     (ap (λ (n : ℕ). n / 4) (mul_assoc 3 (s.p - 1) (s.p - 1)) ∙ sym (balanced_reads s k b taken ruled))
@@ -113,5 +114,5 @@ balance_given s k b taken none e =
     ruled = subst (TakesRows s (by_balance s k)) (sym e) (table_takes s k b)
 
 -- any two answers that the balanced plan may give are equal
-pub balance_one : (s : Shape) (k : ℕ) (x y : PlanAnswer) → Balances s k x → Balances s k y → x ≡ y
+pub balance_one : (s : Shape) (k : ℕ) (x y : Result ReadPlan Refusal) → Balances s k x → Balances s k y → x ≡ y
 balance_one s k = plans_one s k (by_balance s) (balance_faults s k)

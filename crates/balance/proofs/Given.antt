@@ -3,18 +3,19 @@
 use mathlib.Core.Path.{◌≡◌, refl, sym, ap, ◌∙◌, subst}
 use mathlib.Core.Logic.{◌↔◌, ◌≢◌}
 use mathlib.Core.List.{List, []}
-use mathlib.Core.Bool.{true, not, true≢false}
+use mathlib.Core.Bool.{true, not}
 use Prim.Native.Nat.{ℕ, ◌+◌, ◌-◌, ◌*◌, ◌/◌, ◌<◌, min}
 use native.Mathlib.Omega.{arith}
 use lib.Count.{ones}
 use lib.ListN.{length, take, drop}
 use borrow.Author.Tests.{eq-eqb, ne_eqb, le-leb, lt-leb, lt-ltb, le-ltb}
+use Rattle.std.specs.declared.option.Option.{Option}
+use Rattle.std.specs.declared.option.Option.TheVariants.{None, Some}
 use Rattle.xor.proofs.Cases.{by_test, and_both, or_left}
 use Rattle.codes.specs.declared.Shape.{Shape}
-use Rattle.codes.specs.declared.Width.{Width}
-use Rattle.codes.specs.declared.Width.TheVariants.{Full, Data}
-use Rattle.codes.specs.declared.Counted.{Counted}
-use Rattle.codes.specs.declared.Counted.TheVariants.{Count, Refused}
+use Rattle.std.specs.Prelude.{Result, Ok, Err}
+use Rattle.refusals.specs.declared.reason.Refusal.{Refusal}
+use Rattle.refusals.proofs.Answer.{not_none}
 use Rattle.codes.specs.Shape.{listed, rows, missing, disks, stripe_length}
 use Rattle.codes.specs.Geometry.{column_of, cell_at, place}
 use Rattle.codes.specs.Encoded.{Encoded}
@@ -25,12 +26,10 @@ use Rattle.codes.proofs.Geometry.{column_all}
 use Rattle.codes.proofs.Lines.{rdp_columns}
 use Rattle.codes.proofs.Shapes.{prime_low, disks_is}
 use Rattle.plan.specs.declared.ReadPlan.{ReadPlan}
-use Rattle.plan.specs.declared.PlanAnswer.{PlanAnswer}
-use Rattle.plan.specs.declared.PlanAnswer.TheVariants.{Plan, Refused as PlanRefused}
 use Rattle.plan.specs.Plan.{column_reads, cells_read, TakesRows, is_accepted}
 use Rattle.plan.specs.Refusals.{rdp_faults}
 use Rattle.plan.proofs.Refused.{rdp_after}
-use Rattle.plan.proofs.Planning.{plan_refused, plan_given}
+use Rattle.plan.proofs.Planning.{plan_given}
 use Rattle.spare.specs.Refusals.{spare_faults, run_faults}
 use Rattle.spare.specs.Run.{takes_row, rows_run, RunsByPlan}
 use Rattle.spare.specs.Runs.{Turn, covers}
@@ -43,17 +42,13 @@ use Rattle.balance.specs.Balances.{Balances}
 use Rattle.balance.proofs.Refused.{balance_after, balance_accepted}
 use Rattle.balance.proofs.BalanceFacts.{balanced_accepted, balanced_ones, balanced_surviving, balanced_last, balanced_reads}
 
-module _ (s : Shape) (k : ℕ) (plan : ReadPlan) (given : Balances s k (Plan plan)) where
+module _ (s : Shape) (k : ℕ) (plan : ReadPlan) (given : Balances s k (Ok plan)) where
   pub asked : Balanceable s k
-  asked = balance_accepted s k (sym given.number)
+  asked = balance_accepted s k (sym given.0)
 
   -- what is given goes by the rule
   pub given_takes : TakesRows s (by_balance s k) plan.rows
-  given_takes =
-      let g = given.given refl in
-      let same : g.plan ≡ plan = cc g.says in
-      let ruled : TakesRows s (by_balance s (column_of s k)) plan.rows = subst (λ (x : ReadPlan). TakesRows s (by_balance s (column_of s k)) x.rows) same g.taken in
-      subst (λ (x : ℕ). TakesRows s (by_balance s x) plan.rows) (column_all s asked.full k) ruled
+  given_takes = subst (λ (x : ℕ). TakesRows s (by_balance s x) plan.rows) (column_all s asked.full k) given.1.taken
 
   -- so it takes half of the rows by diagonal, reads as many cells of each surviving column below p, and so many of column p and in all
   pub given_ones : ones plan.rows ≡ (s.p - 1) / 2
@@ -67,10 +62,7 @@ module _ (s : Shape) (k : ℕ) (plan : ReadPlan) (given : Balances s k (Plan pla
 
   pub given_reads : plan.reads ≡ 3 * ((s.p - 1) * (s.p - 1)) / 4
   given_reads =
-      let g = given.given refl in
-      let same : g.plan ≡ plan = cc g.says in
-      sym (ap (λ (x : ReadPlan). x.reads) same) ∙ g.reads
-      ∙ (λ i. cells_read s (column_all s asked.full k i) (same i).rows) ∙ balanced_reads s k asked plan.rows given_takes
+      given.1.reads ∙ ap (λ (x : ℕ). cells_read s x plan.rows) (column_all s asked.full k) ∙ balanced_reads s k asked plan.rows given_takes
 
   -- it is accepted
   pub given_accepted : is_accepted s (column_of s k) plan.rows ≡ true
@@ -82,7 +74,7 @@ module _ (s : Shape) (k : ℕ) (plan : ReadPlan) (given : Balances s k (Plan pla
     run_allowed = sym ((run_after s bytes spare k plan.rows first).own (sym lent) (miss (lt-leb (disks s) k there) (miss (lt-leb s.p first inside) (miss (ap not given_accepted) right))))
       where
         shape : 0 ≡ refusal (rdp_faults s)
-        shape = let n = (balance_after s k).none (sym given.number) in (rdp_after s).own n.0 (miss n.1.1.0 (miss n.1.1.1.1.0 (miss n.1.1.1.1.1.0 right)))
+        shape = let n = (balance_after s k).none (sym given.0) in (rdp_after s).own n.0 (miss n.1.1.0 (miss n.1.1.1.1.0 (miss n.1.1.1.1.1.0 right)))
 
         lent : 0 ≡ refusal (spare_faults s bytes spare)
         lent = (spare_after s bytes spare).own (sym shape) (miss (ap not (eq-eqb bytes (stripe_length s) long)) (miss (ap not (eq-eqb spare (rows s * s.cell) whole)) right))
@@ -93,12 +85,12 @@ module _ (s : Shape) (k : ℕ) (plan : ReadPlan) (given : Balances s k (Plan pla
   -- one over all rows, from a stripe that agrees with an encoded one beside the lost column, leaves that column in the spare
   module _ (x stripe old new : List ℕ) (encoded : Encoded s x) (long : length x ≡ stripe_length s) (lent : length stripe ≡ stripe_length s)
       (agree : Agree s (callers_columns s k k) stripe x) (whole : length old ≡ rows s * s.cell) where
-    pub balanced_rebuilds : (answer : Counted) → RunsByPlan s k plan.rows 0 (rows s) stripe old new answer
-        → (answer ≡ Count (rows s)) × (new ≡ take (rows s * s.cell) (drop (place s (cell_at s 0 k)) x))
+    pub balanced_rebuilds : (answer : Result ℕ Refusal) → RunsByPlan s k plan.rows 0 (rows s) stripe old new answer
+        → (answer ≡ Ok (rows s)) × (new ≡ take (rows s * s.cell) (drop (place s (cell_at s 0 k)) x))
     unfolding rows_run takes_row covers
-    balanced_rebuilds (Refused number) h = absurd (h.1 (h.0 ∙ run_allowed (length stripe) (length old) 0 lent whole (omega (arith, asked.below))))
-    balanced_rebuilds (Count n) h = (
-      ap Count (h.1.0 ∙ all),
+    balanced_rebuilds (Err why) h = absurd (not_none why (h.0 ∙ run_allowed (length stripe) (length old) 0 lent whole (omega (arith, asked.below))))
+    balanced_rebuilds (Ok n) h = (
+      ap Ok (h.1.0 ∙ all),
       column_comes_back s k x encoded turn [] old new long (agree, tt) (new, record { count = n; runs = h }, refl) (λ i li. or_left _ (and_both (le-leb 0 i (omega arith)) (lt-ltb i (0 + rows s) (omega arith)))),
     )
       where
@@ -112,11 +104,11 @@ module _ (s : Shape) (k : ℕ) (plan : ReadPlan) (given : Balances s k (Plan pla
 
 module _ (p cell k : ℕ) where
   -- RDP with so many data columns
-  abbrev rdp_of : Width → Shape
+  abbrev rdp_of : Option ℕ → Shape
   rdp_of width = record { code = 1; p = p; cell = cell; width = width }
 
   -- the refusals are the same
-  same_refusal : refusal (balance_faults (rdp_of (Data (p - 1))) k) ≡ refusal (balance_faults (rdp_of Full) k)
+  same_refusal : refusal (balance_faults (rdp_of (Some (p - 1))) k) ≡ refusal (balance_faults (rdp_of None) k)
   unfolding balance_faults refusal first_of order applies missing
   same_refusal =
       by_test (listed p)
@@ -124,11 +116,11 @@ module _ (p cell k : ℕ) where
       (λ h. rw h refl)
 
   -- what is given for one width is given for another that is refused alike
-  carried : (v w : Width) → refusal (balance_faults (rdp_of v) k) ≡ refusal (balance_faults (rdp_of w) k) → (answer : PlanAnswer) → Balances (rdp_of v) k answer → Balances (rdp_of w) k answer
+  carried : (v w : Option ℕ) → refusal (balance_faults (rdp_of v) k) ≡ refusal (balance_faults (rdp_of w) k) → (answer : Result ReadPlan Refusal) → Balances (rdp_of v) k answer → Balances (rdp_of w) k answer
   unfolding rows by_balance
-  carried v w same (PlanRefused n) h = plan_refused (rdp_of w) k (by_balance (rdp_of w)) (balance_faults (rdp_of w) k) n (h.number ∙ same) (λ z. true≢false (cc (h.given z).says))
-  carried v w same (Plan plan) h =
-      let none = sym (h.number ∙ same) in
+  carried v w same (Err why) h = h ∙ same
+  carried v w same (Ok plan) h =
+      let none = sym (h.0 ∙ same) in
       let b = balance_accepted (rdp_of w) k none in
       let taken = given_takes (rdp_of v) k plan h in
       let ruled : TakesRows (rdp_of w) (by_balance (rdp_of w) k) plan.rows = record { low = taken.low; rule = taken.rule } in
@@ -136,5 +128,5 @@ module _ (p cell k : ℕ) where
       (given_reads (rdp_of v) k plan h ∙ sym (balanced_reads (rdp_of w) k b plan.rows ruled))
 
   -- with m = p-1 the call answers what it does without m, and nothing else
-  pub balance_as_absent : (answer : PlanAnswer) → Balances (rdp_of (Data (p - 1))) k answer ↔ Balances (rdp_of Full) k answer
-  balance_as_absent answer = (carried (Data (p - 1)) Full same_refusal answer, carried Full (Data (p - 1)) (sym same_refusal) answer)
+  pub balance_as_absent : (answer : Result ReadPlan Refusal) → Balances (rdp_of (Some (p - 1))) k answer ↔ Balances (rdp_of None) k answer
+  balance_as_absent answer = (carried (Some (p - 1)) None same_refusal answer, carried None (Some (p - 1)) (sym same_refusal) answer)

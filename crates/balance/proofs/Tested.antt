@@ -6,12 +6,12 @@ use Prim.Native.Nat.{ℕ, ◌+◌, ◌-◌, ◌*◌, ◌/◌, ◌<◌}
 use native.Mathlib.Omega.{arith}
 use lib.Dec.{eqb}
 use borrow.Author.Tests.{eqb-true, ne_eqb, not-true, not-false}
+use Rattle.std.specs.declared.option.Option.TheVariants.{None}
 use Rattle.xor.specs.Sets.{any, count}
 use Rattle.xor.proofs.Cases.{and_left, and_right, not_xor}
 use Rattle.xor.proofs.Sets.{any_none}
 use Rattle.bits.specs.Bit.{bit, lowest}
 use Rattle.codes.specs.declared.Shape.{Shape}
-use Rattle.codes.specs.declared.Width.TheVariants.{Full}
 use Rattle.codes.specs.Shape.{rows}
 use Rattle.plan.specs.Plan.{is_accepted}
 use Rattle.plan.proofs.ByColumns.{pairs}
@@ -33,7 +33,7 @@ five a b c d e h =
 
 -- RDP at a prime, of which the test is computed
 abbrev pub rdp_at : ℕ → Shape
-rdp_at p = record { code = 1; p = p; cell = 1; width = Full }
+rdp_at p = record { code = 1; p = p; cell = 1; width = None }
 
 -- some row is not as the rule says, where the squares are shifted by s
 off_rule : ℕ → ℕ → ℕ → Bool

@@ -3,13 +3,15 @@
 #![tactic(auto)]
 
 ghost use Rattle.std.specs.Prelude.{◌≡◌};
+ghost use Rattle.refusals.specs.Number.{number};
 ghost use Rattle.refusals.specs.Refusals.{refusal};
 ghost use Rattle.balance.specs.Balance.{offered};
 ghost use Rattle.balance.specs.Refusals.{balance_faults};
 ghost use Rattle.balance.specs.Balances.{Balances};
 
-use codes::Shape;
-use plan::{PlanAnswer, ReadPlan};
+use codes::{Code, Shape};
+use plan::ReadPlan;
+use refusals::Refusal;
 
 mod table;
 
@@ -17,52 +19,38 @@ mod table;
 fn is_offered(p: usize) -> bool
     ensures { result ≡ offered p }
 {
-    match p {
-        3 | 7 | 11 | 19 | 23 | 31 => true,
-        _ => false,
-    }
+    matches!(p, 3 | 7 | 11 | 19 | 23 | 31)
 }
 
-// The refusal of a balanced plan for column k: the first number that applies, or 0.
-fn balance_refusal(shape: Shape, k: usize) -> usize
-    ensures { result ≡ refusal (balance_faults shape k) }
+// Checks what a balanced plan for column k is told.
+fn check_balance(shape: Shape, k: usize) -> Result<(), Refusal>
+    ensures { number result ≡ refusal (balance_faults shape k) }
 {
-    let wrong = refusals::code_refusal(shape);
-    let size = refusals::size_refusal(shape);
-    let other_prime = !is_offered(shape.p);
-    let other_code = shape.code != 1;
-    if wrong != 0 {
-        return wrong;
-    }
+    refusals::check_code(shape)?;
     if refusals::is_short(shape) {
-        return 14;
+        return Err(Refusal::DataColumns);
     }
-    if other_code {
-        return 3;
+    if shape.code != Code::Rdp as usize {
+        return Err(Refusal::OtherCode);
     }
-    if other_prime {
-        return 15;
+    if !is_offered(shape.p) {
+        return Err(Refusal::OtherPrime);
     }
-    if size != 0 {
-        return size;
-    }
+    refusals::check_size(shape)?;
     if shape.p <= k {
-        return 6;
+        return Err(Refusal::Outside);
     }
-    0
+    Ok(())
 }
 
 // Balanced plan: the rows of the lost column k that go by diagonal, so that each surviving column below p is read as often as the others, and
-// how many distinct cells are then read. Answers the plan, or refusal 1, 2, 14, 3, 15, 4 or 6.
-pub fn balanced_plan(shape: Shape, k: usize) -> PlanAnswer
+// how many distinct cells are then read. Refusals 1, 2, 14, 3, 15, 4 and 6.
+pub fn balanced_plan(shape: Shape, k: usize) -> Result<ReadPlan, Refusal>
     ensures { Balances shape k result }
 {
-    let number = balance_refusal(shape, k);
-    if number != 0 {
-        return PlanAnswer::Refused(number);
-    }
+    check_balance(shape, k)?;
     let n = shape.p - 1;
-    PlanAnswer::Plan(ReadPlan {
+    Ok(ReadPlan {
         rows: table::plan_of(shape.p, k),
         reads: 3 * n * n / 4,
     })

@@ -3,7 +3,7 @@ ghost use Rattle.std.specs.Prelude.{◌≡◌, true, ◌<◌};
 ghost use Rattle.balance.specs.Balance.{offered};
 ghost use Rattle.balance.specs.Table.{plans_before, plan_at};
 
-// By rising prime, and for each by rising column.
+// By rising prime, and for each by rising column. The project's rules name a table here.
 const PLANS: [u64; 94] = [
     // p = 3
     2, 1, 2,

@@ -7,8 +7,8 @@ use mathlib.Core.Bool.{true}
 use Prim.Native.Nat.{ℕ, ◌-◌, ◌<◌}
 use native.Mathlib.Omega.{arith}
 use borrow.Author.Tests.{eq-eqb, ne_eqb, lt-leb}
+use Rattle.std.specs.declared.option.Option.TheVariants.{None, Some}
 use Rattle.codes.specs.declared.Shape.{Shape}
-use Rattle.codes.specs.declared.Width.TheVariants.{Full, Data}
 use Rattle.codes.specs.Shape.{last_code, listed, missing, without, wrong_data}
 use Rattle.codes.proofs.Shapes.{each_prime}
 use Rattle.before.proofs.Calls.{Call, encode, broken, small_write, rebuild_cells, rebuild_columns, bad_column, plan, run, show, show_reason, shown_at, Allowed, Allowed01}
@@ -30,7 +30,7 @@ as_before s w (show_reason k done row column stripe spare answer) = along (λ i.
 as_before s w (shown_at bytes spare k done row column answer) = shown_as s w k done row column bytes spare answer
 
 -- no number given
-absent : (s : Shape) → s.code ≢ last_code → s.width ≡ Full → Whole s
+absent : (s : Shape) → s.code ≢ last_code → s.width ≡ None → Whole s
 unfolding missing
 absent s known e = record { known = known; none = ap (without s.p) e; right = λ h. ap (wrong_data s.code s.p) e }
 
@@ -39,7 +39,7 @@ more : (p : ℕ) → listed p ≡ true → 1 < p
 more = each_prime (λ p. 1 < p) (omega arith) (omega arith) (omega arith) (omega arith) (omega arith) (omega arith) (omega arith) (omega arith) (omega arith) (omega arith)
 
 -- for RDP a number m that leaves no data column out
-all_given : (s : Shape) (m : ℕ) → s.code ≡ 1 → s.width ≡ Data m → s.p - 1 - m ≡ 0 → (listed s.p ≡ true → (0 < m) × (m < s.p)) → Whole s
+all_given : (s : Shape) (m : ℕ) → s.code ≡ 1 → s.width ≡ Some m → s.p - 1 - m ≡ 0 → (listed s.p ≡ true → (0 < m) × (m < s.p)) → Whole s
 unfolding missing
 all_given s m rdp e left some =
     record {
@@ -53,14 +53,14 @@ all_given s m rdp e left some =
 -- ---- document 02, request 01
 
 -- with m absent every answer and every byte is as it was, whatever the code is but the one that came later
-pub absent_as_before : (s : Shape) → s.code ≢ last_code → s.width ≡ Full → (c : Call) → Allowed s c ↔ Allowed01 (full s) c
+pub absent_as_before : (s : Shape) → s.code ≢ last_code → s.width ≡ None → (c : Call) → Allowed s c ↔ Allowed01 (full s) c
 absent_as_before s known e = as_before s (absent s known e)
 
 -- with m = p-1 for RDP too
-pub all_as_before : (s : Shape) → s.code ≡ 1 → s.width ≡ Data (s.p - 1) → (c : Call) → Allowed s c ↔ Allowed01 (full s) c
+pub all_as_before : (s : Shape) → s.code ≡ 1 → s.width ≡ Some (s.p - 1) → (c : Call) → Allowed s c ↔ Allowed01 (full s) c
 all_as_before s rdp e = as_before s (all_given s (s.p - 1) rdp e (omega arith) (λ h. (omega (arith, more s.p h), omega (arith, more s.p h))))
 
 -- so m = p-1 gives the same as m absent
-pub all_as_absent : (s : Shape) → s.code ≡ 1 → s.width ≡ Data (s.p - 1) → (c : Call) → Allowed s c ↔ Allowed (full s) c
+pub all_as_absent : (s : Shape) → s.code ≡ 1 → s.width ≡ Some (s.p - 1) → (c : Call) → Allowed s c ↔ Allowed (full s) c
 all_as_absent s rdp e c =
     Iff.trans (as_before s (all_given s (s.p - 1) rdp e (omega arith) (λ h. (omega (arith, more s.p h), omega (arith, more s.p h)))) c) (Iff.symm (absent_as_before (full s) (λ z. omega arith) refl c))

@@ -3,14 +3,15 @@ use mathlib.Core.Path.{◌≡◌}
 use mathlib.Core.List.{List}
 use Prim.Native.Nat.{ℕ}
 use Rattle.codes.specs.declared.Shape.{Shape}
-use Rattle.codes.specs.declared.Counted.{Counted}
+use Rattle.std.specs.Prelude.{Result}
+use Rattle.refusals.specs.declared.reason.Refusal.{Refusal}
 use Rattle.stripe.specs.Encode.{Encodes}
 use Rattle.stripe.specs.Broken.{Counts}
 use Rattle.stripe.specs.Write.{Writes}
 use Rattle.rebuild.specs.Rebuild.{RebuildsCells, RebuildsColumns}
 use Rattle.bad.specs.declared.BadColumn.{BadColumn}
 use Rattle.bad.specs.Bad.{Finds}
-use Rattle.plan.specs.declared.PlanAnswer.{PlanAnswer}
+use Rattle.plan.specs.declared.ReadPlan.{ReadPlan}
 use Rattle.plan.specs.Plans.{Plans}
 use Rattle.spare.specs.Run.{RunsByPlan}
 use Rattle.show.specs.declared.ShownAt.{ShownAt}
@@ -20,16 +21,16 @@ use Rattle.before.proofs.Document01 as was
 -- a call that was made, and what came of it
 pub data Call : Type 0 where
   encode : (old : List ℕ) (answer : ℕ) (new : List ℕ) → Call
-  broken : (stripe : List ℕ) (answer : Counted) → Call
-  small_write : (row column : ℕ) (bytes old new : List ℕ) (answer : Counted) → Call
+  broken : (stripe : List ℕ) (answer : Result ℕ Refusal) → Call
+  small_write : (row column : ℕ) (bytes old new : List ℕ) (answer : Result ℕ Refusal) → Call
   rebuild_cells : (numbers old : List ℕ) (answer : ℕ) (new : List ℕ) → Call
   rebuild_columns : (a b : ℕ) (old : List ℕ) (answer : ℕ) (new : List ℕ) → Call
-  bad_column : (stripe : List ℕ) (answer : BadColumn) → Call
-  plan : (k : ℕ) (answer : PlanAnswer) → Call
-  run : (k by first budget : ℕ) (stripe old new : List ℕ) (answer : Counted) → Call
+  bad_column : (stripe : List ℕ) (answer : Result BadColumn Refusal) → Call
+  plan : (k : ℕ) (answer : Result ReadPlan Refusal) → Call
+  run : (k by first budget : ℕ) (stripe old new : List ℕ) (answer : Result ℕ Refusal) → Call
   show : (k done row column : ℕ) (stripe spare answer : Lent) → Call
   show_reason : (k done row column : ℕ) (stripe spare : Lent) (answer : ℕ) → Call
-  shown_at : (bytes spare k done row column : ℕ) (answer : ShownAt) → Call
+  shown_at : (bytes spare k done row column : ℕ) (answer : Result ShownAt Refusal) → Call
 
 -- what the contracts of today allow
 abbrev pub Allowed : Shape → Call → Type 0

@@ -8,37 +8,42 @@ use Prim.Native.Nat.{ℕ, ◌+◌, ◌*◌, ◌≤◌, ◌<◌}
 use lib.ListN.{length, get_or}
 use Rattle.xor.specs.Xor.{◌⊕◌}
 use Rattle.codes.specs.declared.Shape.{Shape}
-use Rattle.codes.specs.declared.Counted.{Counted}
-use Rattle.codes.specs.declared.Counted.TheVariants.{Count, Refused as CountRefused}
 use Rattle.codes.specs.Shape.{rows, columns, cells, equations, cell_number}
 use Rattle.codes.specs.Equations.{equation}
 use Rattle.codes.specs.Encoded.{parity_cell, sums_cell, sum_over, is_parity, byte_at, Encoded}
 use Rattle.codes.specs.Agree.{Agree, callers_columns}
 use Rattle.refusals.specs.Refusals.{Fault, refusal}
-use Rattle.refusals.specs.Answer.{Answers}
+use Rattle.std.specs.Prelude.{Result, Ok, Err}
+use Rattle.refusals.specs.declared.reason.Refusal.{Refusal}
+use Rattle.refusals.specs.Answer.{Tells, Answers}
 use Rattle.stripe.specs.Encode.{EncodingOf, Encodes}
 use Rattle.stripe.specs.Broken.{Counts}
 use Rattle.stripe.specs.Write.{Difference, Written, Alone, Depending, Writes}
 use Rattle.decide.specs.Survivors.{EncodedStripe, Undetermined, Restores}
 use Rattle.rebuild.specs.Rebuild.{Decides, undetermined, disagree, restored, Rebuilds, RebuildsCells, RebuildsColumns}
 use Rattle.bad.specs.declared.BadColumn.{BadColumn}
-use Rattle.bad.specs.declared.BadColumn.TheVariants.{Clean, Column, Unexplained, Refused as BadRefused}
+use Rattle.bad.specs.declared.BadColumn.TheVariants.{Clean, Column, Unexplained}
 use Rattle.bad.specs.Bad.{Replaceable, Finding, Finds}
-use Rattle.plan.specs.declared.PlanAnswer.{PlanAnswer}
+use Rattle.plan.specs.declared.ReadPlan.{ReadPlan}
 use Rattle.plan.specs.Plan.{by_rule, ByRule}
 use Rattle.plan.specs.Plans.{GivesPlan, Plans}
 use Rattle.spare.specs.Run.{spare_byte, RowsRebuilt, rows_run, RunsByPlan}
 use Rattle.show.specs.declared.ShownAt.{ShownAt}
 use Rattle.show.specs.declared.ShownAt.TheVariants.{Stripe}
-use Rattle.show.specs.Show.{Lent, PartOf, reason, shown_place, Shows, shown_number, Shown}
+use Rattle.show.specs.Show.{Lent, PartOf, reason, shown_place, Shows, LiesAt, Shown}
 use Rattle.before.proofs.Document01 as was
 use Rattle.before.proofs.Moved.{along, full, Whole, columns_as, places_as, disks_all, length_as, bytes_as, broken_as, named_as, lost_as, stripe_refused, write_refused, cells_refused, columns_refused, plan_refused, run_refused_lem, show_refused, reads_as, rebuilt_as}
 
--- a count or a refusal, where the refusal and what holds of a count are the same
-answers_as : (faults faults' : List Fault) {P Q : ℕ → Type 0} (old new : List ℕ) → refusal faults ≡ was.refusal faults' → ((n : ℕ) → P n ↔ Q n)
-    → (answer : Counted) → Answers faults old new P answer ↔ was.Answers faults' old new Q answer
-answers_as faults faults' old new e p (Count n) = (λ h. (h.0 ∙ e, (p n).0 h.1), λ h. (h.0 ∙ sym e, (p n).1 h.1))
-answers_as faults faults' old new e p (CountRefused number) = (λ h. (h.0 ∙ e, h.1, h.2), λ h. (h.0 ∙ sym e, h.1, h.2))
+-- something or a refusal, where the refusal and what holds of the thing are the same
+tells_as : {A : Type 0} (faults faults' : List Fault) {P Q : A → Type 0} → refusal faults ≡ was.refusal faults' → ((x : A) → P x ↔ Q x)
+    → (answer : Result A Refusal) → Tells faults P answer ↔ was.Tells faults' Q answer
+tells_as faults faults' e p (Ok x) = (λ h. (h.0 ∙ e, (p x).0 h.1), λ h. (h.0 ∙ sym e, (p x).1 h.1))
+tells_as faults faults' e p (Err why) = (λ h. h ∙ e, λ h. h ∙ sym e)
+
+answers_as : {A : Type 0} (faults faults' : List Fault) {P Q : A → Type 0} (old new : List ℕ) → refusal faults ≡ was.refusal faults' → ((x : A) → P x ↔ Q x)
+    → (answer : Result A Refusal) → Answers faults old new P answer ↔ was.Answers faults' old new Q answer
+answers_as faults faults' old new e p (Ok x) = (λ h. (h.0 ∙ e, (p x).0 h.1), λ h. (h.0 ∙ sym e, (p x).1 h.1))
+answers_as faults faults' old new e p (Err why) = (λ h. (h.0 ∙ e, h.1), λ h. (h.0 ∙ sym e, h.1))
 
 module _ (s : Shape) (w : Whole s) where
   -- ---- encoded, and agreeing
@@ -74,7 +79,7 @@ module _ (s : Shape) (w : Whole s) where
         λ e. record { number = e.number ∙ sym number; refused = e.refused; done = λ z. done.1 (e.done z) },
       )
 
-  pub counts_as : (stripe : List ℕ) (answer : Counted) → Counts s stripe answer ↔ was.Counts (full s) stripe answer
+  pub counts_as : (stripe : List ℕ) (answer : Result ℕ Refusal) → Counts s stripe answer ↔ was.Counts (full s) stripe answer
   counts_as stripe = answers_as _ _ stripe stripe (stripe_refused s w (length stripe)) (λ n. along (λ i. n ≡ broken_as s w i stripe))
 
   difference_as : (c : ℕ) (old bytes d : List ℕ) → Difference s c old bytes d ↔ was.Difference (full s) c old bytes d
@@ -110,7 +115,7 @@ module _ (s : Shape) (w : Whole s) where
         λ e. record { unit = e.unit; alone = (alone e.unit).1 e.alone; size = e.size },
       )
 
-  pub writes_as : (row column : ℕ) (bytes old new : List ℕ) (answer : Counted)
+  pub writes_as : (row column : ℕ) (bytes old new : List ℕ) (answer : Result ℕ Refusal)
       → Writes s row column bytes old new answer ↔ was.Writes (full s) row column bytes old new answer
   unfolding cell_number rows
   writes_as row column bytes old new =
@@ -196,15 +201,9 @@ module _ (s : Shape) (w : Whole s) where
   finding_as stripe Unexplained =
       let not_clean = Iff.not (encoded_as stripe) in
       (λ e. (not_clean.0 e.0, λ c. (Iff.not (replaceable_as stripe c)).0 (e.1 c)), λ e. (not_clean.1 e.0, λ c. (Iff.not (replaceable_as stripe c)).1 (e.1 c)))
-  finding_as stripe (BadRefused number) = (λ e. e, λ e. e)
 
-  pub finds_as : (stripe : List ℕ) (answer : BadColumn) → Finds s stripe answer ↔ was.Finds (full s) stripe answer
-  finds_as stripe answer =
-      let number = stripe_refused s w (length stripe) in
-      let finding = finding_as stripe answer in (
-        λ e. record { number = e.number ∙ number; finding = λ z. finding.0 (e.finding z) },
-        λ e. record { number = e.number ∙ sym number; finding = λ z. finding.1 (e.finding z) },
-      )
+  pub finds_as : (stripe : List ℕ) (answer : Result BadColumn Refusal) → Finds s stripe answer ↔ was.Finds (full s) stripe answer
+  finds_as stripe = tells_as _ _ (stripe_refused s w (length stripe)) (finding_as stripe)
 
   -- ---- plan, run by plan and show
 
@@ -212,19 +211,16 @@ module _ (s : Shape) (w : Whole s) where
   unfolding by_rule rows
   rule_as k plan = (λ e. record { low = e.low; rule = e.rule }, λ e. record { low = e.low; rule = e.rule })
 
-  gives_as : (k : ℕ) (answer : PlanAnswer) → GivesPlan s k (by_rule s k) answer ↔ was.GivesPlan (full s) k answer
-  gives_as k answer = (
-    λ e. record { plan = e.plan; says = e.says; rule = (rule_as k e.plan.rows).0 e.taken; reads = e.reads ∙ (λ i. reads_as s w i k e.plan.rows) },
-    λ e. record { plan = e.plan; says = e.says; taken = (rule_as k e.plan.rows).1 e.rule; reads = e.reads ∙ sym (λ i. reads_as s w i k e.plan.rows) },
+  gives_as : (k : ℕ) (plan : ReadPlan) → GivesPlan s k (by_rule s k) plan ↔ was.GivesPlan (full s) k plan
+  gives_as k plan = (
+    λ e. record { rule = (rule_as k plan.rows).0 e.taken; reads = e.reads ∙ (λ i. reads_as s w i k plan.rows) },
+    λ e. record { taken = (rule_as k plan.rows).1 e.rule; reads = e.reads ∙ sym (λ i. reads_as s w i k plan.rows) },
   )
 
-  pub plans_as : (k : ℕ) (answer : PlanAnswer) → Plans s k answer ↔ was.Plans (full s) k answer
-  plans_as k answer =
-      let number = plan_refused s w k in
-      let gives = Iff.trans (along (λ i. GivesPlan s (columns_as s w i k) (by_rule s (columns_as s w i k)) answer)) (gives_as (was.column_of (full s) k) answer) in (
-        λ e. record { number = e.number ∙ number; given = λ z. gives.0 (e.given z) },
-        λ e. record { number = e.number ∙ sym number; given = λ z. gives.1 (e.given z) },
-      )
+  pub plans_as : (k : ℕ) (answer : Result ReadPlan Refusal) → Plans s k answer ↔ was.Plans (full s) k answer
+  plans_as k =
+      tells_as _ _ (plan_refused s w k)
+      (λ plan. Iff.trans (along (λ i. GivesPlan s (columns_as s w i k) (by_rule s (columns_as s w i k)) plan)) (gives_as (was.column_of (full s) k) plan))
 
   rows_as : (k plan first n : ℕ) (stripe old new : List ℕ) → RowsRebuilt s k plan first n stripe old new ↔ was.RowsRebuilt (full s) k plan first n stripe old new
   unfolding spare_byte
@@ -234,7 +230,7 @@ module _ (s : Shape) (w : Whole s) where
         λ e. record { long = e.long; rebuilt = all.1 e.rebuilt; kept = e.kept },
       )
 
-  pub runs_as : (k plan first budget : ℕ) (stripe old new : List ℕ) (answer : Counted)
+  pub runs_as : (k plan first budget : ℕ) (stripe old new : List ℕ) (answer : Result ℕ Refusal)
       → RunsByPlan s k plan first budget stripe old new answer ↔ was.RunsByPlan (full s) k plan first budget stripe old new answer
   unfolding rows_run rows
   runs_as k plan first budget stripe old new =
@@ -262,10 +258,10 @@ module _ (s : Shape) (w : Whole s) where
           λ e. record { refused = refused.1 e.refused; other = other.1 e.other; ready = ready.1 e.ready },
         )
 
-    pub shown_as : (bytes spare : ℕ) (answer : ShownAt) → Shown s bytes spare k done row column answer ↔ was.Shown (full s) bytes spare k done row column answer
-    shown_as bytes spare answer =
-        let number = show_refused s w bytes spare k done row column in
-        let other = along (λ i. shown_number answer ≡ 0 → column ≢ k → answer ≡ Stripe (at i)) in (
-          λ e. record { number = e.number ∙ number; other = other.0 e.other; ready = e.ready },
-          λ e. record { number = e.number ∙ sym number; other = other.1 e.other; ready = e.ready },
-        )
+    lies_as : (at' : ShownAt) → LiesAt s k row column at' ↔ was.LiesAt (full s) k row column at'
+    lies_as at' =
+        let other = along (λ i. column ≢ k → at' ≡ Stripe (at i)) in
+        (λ e. record { other = other.0 e.other; ready = e.ready }, λ e. record { other = other.1 e.other; ready = e.ready })
+
+    pub shown_as : (bytes spare : ℕ) (answer : Result ShownAt Refusal) → Shown s bytes spare k done row column answer ↔ was.Shown (full s) bytes spare k done row column answer
+    shown_as bytes spare = tells_as _ _ (show_refused s w bytes spare k done row column) lies_as

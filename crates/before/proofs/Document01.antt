@@ -11,28 +11,25 @@ use lib.ListN.{length, get_or}
 use Rattle.xor.specs.Xor.{◌⊕◌}
 use Rattle.xor.specs.Sets.{any, count}
 use Rattle.codes.specs.declared.Shape.{Shape}
-use Rattle.codes.specs.declared.Counted.{Counted}
-use Rattle.codes.specs.declared.Counted.TheVariants.{Count, Refused as CountRefused}
 use Rattle.codes.specs.Shape.{listed, rows, columns, cells, equations, cell_number}
 use Rattle.codes.specs.Equations.{Code, rdp, hcode, xcode}
 use Rattle.codes.specs.Encoded.{parity_cell, sum_over, is_parity}
 use Rattle.codes.specs.Holders.{holds}
 use Rattle.codes.specs.Agree.{in_columns}
+use Rattle.std.specs.Prelude.{Result, Ok, Err}
+use Rattle.refusals.specs.declared.reason.Refusal.{Refusal}
+use Rattle.refusals.specs.Number.{number_of}
 use Rattle.refusals.specs.Refusals.{Fault, first_of, fault, size_faults, other_length, outside}
 use Rattle.stripe.specs.Write.{Depending}
 use Rattle.bad.specs.declared.BadColumn.{BadColumn}
-use Rattle.bad.specs.declared.BadColumn.TheVariants.{Clean, Column, Unexplained, Refused as BadRefused}
-use Rattle.bad.specs.Bad.{bad_number}
+use Rattle.bad.specs.declared.BadColumn.TheVariants.{Clean, Column, Unexplained}
 use Rattle.plan.specs.declared.ReadPlan.{ReadPlan}
-use Rattle.plan.specs.declared.PlanAnswer.{PlanAnswer}
-use Rattle.plan.specs.declared.PlanAnswer.TheVariants.{Plan}
 use Rattle.plan.specs.Plan.{chosen, ByRule, is_accepted}
 use Rattle.plan.specs.Refusals.{not_rdp}
-use Rattle.plan.specs.Plans.{plan_number}
 use Rattle.spare.specs.Run.{others, spare_byte, rows_run}
 use Rattle.show.specs.declared.ShownAt.{ShownAt}
 use Rattle.show.specs.declared.ShownAt.TheVariants.{Stripe, Spare}
-use Rattle.show.specs.Show.{Lent, PartOf, shown_number}
+use Rattle.show.specs.Show.{Lent, PartOf}
 
 -- ---- the three codes
 
@@ -163,11 +160,16 @@ show_faults s bytes spare k done row column =
     spare_faults s bytes spare
     ++ outside row (rows s) ∷ outside column (columns s) ∷ outside k (columns s) ∷ outside done s.p ∷ fault 10 (eqb column k && leb done row) ∷ []
 
--- the answer of a call with these faults, which finds the bytes old and leaves new. Document 01's number of a count is 0, and P holds of its value;
+-- the answer of a call with these faults that writes nothing: what it gives, of which P holds, or the refusal
+abbrev pub Tells : {A : Type 0} → List Fault → (A → Type 0) → Result A Refusal → Type 0
+Tells faults P (Ok given) = (0 ≡ refusal faults) × P given
+Tells faults P (Err why) = number_of why ≡ refusal faults
+
+-- the answer of a call with these faults, which finds the bytes old and leaves new. Document 01's number of what is given is 0, and P holds of it;
 -- that of a refusal is the refusal, and every byte is as it was
-abbrev pub Answers : List Fault → List ℕ → List ℕ → (ℕ → Type 0) → Counted → Type 0
-Answers faults old new P (Count n) = (0 ≡ refusal faults) × P n
-Answers faults old new P (CountRefused number) = (number ≡ refusal faults) × (number ≢ 0) × (new ≡ old)
+abbrev pub Answers : {A : Type 0} → List Fault → List ℕ → List ℕ → (A → Type 0) → Result A Refusal → Type 0
+Answers faults old new P (Ok given) = (0 ≡ refusal faults) × P given
+Answers faults old new P (Err why) = (number_of why ≡ refusal faults) × (new ≡ old)
 
 -- ---- encode, broken and small write
 
@@ -184,7 +186,7 @@ pub record Encodes (s : Shape) (old : List ℕ) (answer : ℕ) (new : List ℕ) 
   pub done : answer ≡ 0 → EncodingOf s old new
 
 -- broken answers how many equations fail in at least one byte, or the refusal
-abbrev pub Counts : Shape → List ℕ → Counted → Type 0
+abbrev pub Counts : Shape → List ℕ → Result ℕ Refusal → Type 0
 Counts s stripe = Answers (stripe_faults s (length stripe)) stripe stripe (λ n. n ≡ broken_equations s stripe)
 
 -- d is the difference of the old bytes of cell c and the new ones, put alone into a stripe of zero data, and encoded
@@ -202,7 +204,7 @@ pub record Written (s : Shape) (c : ℕ) (old bytes new : List ℕ) : Type 0 whe
   pub sum : (k : ℕ) → k < cells s → (t : ℕ) → t < s.cell → byte_at s new k t ≡ byte_at s old k t ⊕ byte_at s difference k t
 
 -- a small write leaves the stripe so written and answers how many parity cells depend on the position, or it answers the refusal and leaves every byte
-abbrev pub Writes : Shape → ℕ → ℕ → List ℕ → List ℕ → List ℕ → Counted → Type 0
+abbrev pub Writes : Shape → ℕ → ℕ → List ℕ → List ℕ → List ℕ → Result ℕ Refusal → Type 0
 Writes s row column bytes old new =
     Answers (write_faults s (length old) row column (length bytes)) old new
     (λ n. Written s (cell_at s row column) old bytes new × Depending s (cell_at s row column) n)
@@ -267,12 +269,10 @@ abbrev pub Finding : Shape → List ℕ → BadColumn → Type 0
 Finding s stripe Clean = Encoded s stripe
 Finding s stripe (Column c) = (Encoded s stripe → ⊥) × Replaceable s stripe c
 Finding s stripe Unexplained = (Encoded s stripe → ⊥) × ((c : ℕ) → Replaceable s stripe c → ⊥)
-Finding s stripe (BadRefused number) = ⊥
 
 -- bad column answers a finding that is so, or the refusal
-pub record Finds (s : Shape) (stripe : List ℕ) (answer : BadColumn) : Type 0 where
-  pub number : bad_number answer ≡ refusal (stripe_faults s (length stripe))
-  pub finding : bad_number answer ≡ 0 → Finding s stripe answer
+abbrev pub Finds : Shape → List ℕ → Result BadColumn Refusal → Type 0
+Finds s stripe = Tells (stripe_faults s (length stripe)) (Finding s stripe)
 
 -- ---- plan, run by plan and show
 
@@ -284,17 +284,14 @@ reads_cell s k plan c = any (rows s) (λ i. holds s (chosen s k plan i) c && not
 unfoldable pub cells_read : Shape → ℕ → ℕ → ℕ
 cells_read s k plan = count (cells s) (reads_cell s k plan)
 
--- an answer that gives the plan by the rule for column k, as the equations number it, and how many distinct cells it reads
-pub record GivesPlan (s : Shape) (k : ℕ) (answer : PlanAnswer) : Type 0 where
-  pub plan : ReadPlan
-  pub says : answer ≡ Plan plan
+-- the plan by the rule for column k, as the equations number it, and how many distinct cells it reads
+pub record GivesPlan (s : Shape) (k : ℕ) (plan : ReadPlan) : Type 0 where
   pub rule : ByRule s k plan.rows
   pub reads : plan.reads ≡ cells_read s k plan.rows
 
 -- plan answers the plan by the rule for the column at place k with its reads, or the refusal
-pub record Plans (s : Shape) (k : ℕ) (answer : PlanAnswer) : Type 0 where
-  pub number : plan_number answer ≡ refusal (plan_faults s k)
-  pub given : plan_number answer ≡ 0 → GivesPlan s (column_of s k) answer
+abbrev pub Plans : Shape → ℕ → Result ReadPlan Refusal → Type 0
+Plans s k = Tells (plan_faults s k) (GivesPlan s (column_of s k))
 
 -- byte t of row i of column k, by a plan: the XOR of the other cells of the equation by which the row is taken
 unfoldable pub rebuilt_byte : Shape → ℕ → ℕ → List ℕ → ℕ → ℕ → ℕ
@@ -307,7 +304,7 @@ pub record RowsRebuilt (s : Shape) (k plan first n : ℕ) (stripe old new : List
   pub kept : (i : ℕ) → (i < first) ⊎ (first + n ≤ i) → (t : ℕ) → t < s.cell → spare_byte s new i t ≡ spare_byte s old i t
 
 -- a run rebuilds so many rows of the column at place k from the first on and reports how many, or it answers the refusal and leaves every byte
-abbrev pub RunsByPlan : Shape → ℕ → ℕ → ℕ → ℕ → List ℕ → List ℕ → List ℕ → Counted → Type 0
+abbrev pub RunsByPlan : Shape → ℕ → ℕ → ℕ → ℕ → List ℕ → List ℕ → List ℕ → Result ℕ Refusal → Type 0
 RunsByPlan s k plan first budget stripe old new =
     Answers (run_faults s (length stripe) (length old) k plan first) old new
     (λ n. (n ≡ rows_run s first budget) × RowsRebuilt s (column_of s k) plan first (rows_run s first budget) stripe old new)
@@ -326,8 +323,11 @@ pub record Shows (s : Shape) (k done row column : ℕ) (stripe spare answer : Le
   pub other : reason s k done row column stripe spare ≡ 0 → column ≢ k → PartOf stripe (shown_place s row column) s.cell answer
   pub ready : reason s k done row column stripe spare ≡ 0 → column ≡ k → PartOf spare (row * s.cell) s.cell answer
 
--- the answer says in which buffer the cell lies, and at which byte of it, or it gives the refusal
-pub record Shown (s : Shape) (bytes spare k done row column : ℕ) (answer : ShownAt) : Type 0 where
-  pub number : shown_number answer ≡ refusal (show_faults s bytes spare k done row column)
-  pub other : shown_number answer ≡ 0 → column ≢ k → answer ≡ Stripe (shown_place s row column)
-  pub ready : shown_number answer ≡ 0 → column ≡ k → answer ≡ Spare (row * s.cell)
+-- in which buffer the cell lies, and at which byte of it
+pub record LiesAt (s : Shape) (k row column : ℕ) (at : ShownAt) : Type 0 where
+  pub other : column ≢ k → at ≡ Stripe (shown_place s row column)
+  pub ready : column ≡ k → at ≡ Spare (row * s.cell)
+
+-- the answer says where the cell lies, or it gives the refusal
+abbrev pub Shown : Shape → ℕ → ℕ → ℕ → ℕ → ℕ → ℕ → Result ShownAt Refusal → Type 0
+Shown s bytes spare k done row column = Tells (show_faults s bytes spare k done row column) (LiesAt s k row column)

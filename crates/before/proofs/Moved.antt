@@ -7,11 +7,11 @@ use Prim.Native.Nat.{ℕ, ◌+◌, ◌*◌, ◌/◌, ◌%◌, ◌≤◌}
 use native.Mathlib.Omega.{arith}
 use lib.Dec.{eqb, leb, ltb}
 use lib.ListN.{length, get_or}
+use Rattle.std.specs.declared.option.Option.TheVariants.{None}
 use Rattle.xor.specs.Sets.{any, count}
 use borrow.Author.Tests.{lt-ltb, le-ltb}
 use Rattle.xor.proofs.Cases.{by_test, by_equal, by_less}
 use Rattle.codes.specs.declared.Shape.{Shape}
-use Rattle.codes.specs.declared.Width.TheVariants.{Full}
 use Rattle.codes.specs.Shape.{last_code, listed, rows, columns, cells, equations, cell_number, missing, wrong_data, disks, existing, stripe_length}
 use Rattle.codes.specs.Equations.{code_of, equation}
 use Rattle.codes.specs.Geometry.{is_there, cell_there, column_of, lies_at, cell_of, callers_cell, place}
@@ -34,7 +34,7 @@ along p = (λ a. coe 0 1 (i. p i) a, λ b. coe 1 0 (i. p i) b)
 
 -- the shape that document 01 knows: the code, the prime and the cell size
 abbrev pub full : Shape → Shape
-full s = record { code = s.code; p = s.p; cell = s.cell; width = Full }
+full s = record { code = s.code; p = s.p; cell = s.cell; width = None }
 
 -- the code is not the one that came later, no column is missing, and where the prime is right no number of data columns is refused
 pub record Whole (s : Shape) : Type 0 where

@@ -3,4 +3,6 @@ pub mod Tests
 pub mod Lowest
 pub mod Bits
 pub mod Masks
-pub mod Members
+pub mod Listing
+pub mod Finding
+pub mod Limits

@@ -2,10 +2,41 @@
 #![tactic(auto)]
 
 ghost use Rattle.std.specs.Prelude.{◌≡◌, ◌≢◌, ◌^◌, ◌≤◌, ◌<◌, length};
-ghost use Rattle.bits.specs.Bit.{bit, IsLowest, Members, Union};
+ghost use Rattle.std.specs.Iterator.{at_most};
+ghost use Rattle.bits.specs.Bit.{bit, IsLowest, TakesLowest, Members, Union};
 
 // Room for the members of a set.
 pub const ROOM: usize = 64;
+
+// The members of a set by rising number: `rest` has those that are still to come.
+#[derive(Drop)]
+pub struct Rising {
+    rest: u64,
+}
+
+impl Iterator for Rising {
+    type Item = usize;
+
+    ghost next_gives = { λ s r t. TakesLowest s.rest r t.rest };
+
+    ghost remaining = { λ s. at_most s.rest };
+
+    fn next(&mut self) -> Option<usize> {
+        if self.rest == 0 {
+            return None;
+        }
+        let q = lowest_bit(self.rest) as usize;
+        self.rest = self.rest & (self.rest - 1);
+        Some(q)
+    }
+}
+
+// The members of a set, by rising number.
+pub fn members(set: u64) -> Rising
+    ensures { result.rest ≡ set }
+{
+    Rising { rest: set }
+}
 
 // The lowest member of a set that is not empty.
 pub fn lowest_bit(mask: u64) -> u32
@@ -23,32 +54,23 @@ pub fn one_bit(q: usize) -> u64
     1u64 << q
 }
 
-// Lists the members of a set by rising number, each times `apart`. Answers how many they are.
-pub fn list_members(set: u64, apart: usize, list: &mut [usize; ROOM]) -> usize
-    requires { (length list.old ≡ 64) × (apart ≤ 512) }
-    ensures { Members set apart result list.new }
+// Lists the members of a set by rising number, each times `apart`.
+pub fn list_members<'a>(set: u64, apart: usize, list: &'a mut [usize; ROOM]) -> &'a [usize]
+    requires { apart ≤ 512 }
+    ensures { Members set apart result.now }
 {
+    // how many are listed: what is handed back ends there, so that the count is needed after the loop
     let mut n = 0;
-    let mut rest = set;
-    while rest != 0 {
-        let r = lowest_bit(rest) as usize;
+    for r in members(set) {
         list[n] = r * apart;
         n += 1;
-        rest = rest & (rest - 1);
     }
-    n
+    &list[..n]
 }
 
-// The union of the first n sets.
-pub fn union(sets: &[u64; ROOM], n: usize) -> u64
-    requires { (length sets.now ≡ 64) × (n ≤ 64) }
-    ensures { Union n sets.now result }
+// The union of sets.
+pub fn union(sets: &[u64]) -> u64
+    ensures { Union sets.now result }
 {
-    let mut all = 0u64;
-    let mut j = 0;
-    while j < n {
-        all = all | sets[j];
-        j += 1;
-    }
-    all
+    sets.iter().fold(0, |all, set| all | *set)
 }

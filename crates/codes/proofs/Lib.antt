@@ -19,3 +19,4 @@ pub mod Held
 pub mod Depends
 pub mod Sizes
 pub mod Solutions
+pub mod Bounds

@@ -6,11 +6,11 @@ use Prim.Native.Nat.{ℕ, ◌+◌, ◌-◌, ◌*◌, ◌%◌, ◌≤◌, ◌<◌
 use native.Mathlib.Omega.{arith}
 use lib.Dec.{eqb, ltb}
 use borrow.Author.Tests.{ltb-true, eq-eqb, eqb-true, lt-ltb, not-false}
+use Rattle.std.specs.declared.option.Option.TheVariants.{None}
 use Rattle.xor.specs.Sets.{any}
 use Rattle.xor.proofs.Cases.{by_less, clash, and_left, and_right, and_both, not_passed}
 use Rattle.xor.proofs.Sets.{neither_left, neither_right, any_none}
 use Rattle.codes.specs.declared.Shape.{Shape}
-use Rattle.codes.specs.declared.Width.TheVariants.{Full}
 use Rattle.codes.specs.Equations.{code_of, equation}
 use Rattle.codes.specs.Shape.{last_code, listed, rows, columns, equations, cells, WellFormed}
 use Rattle.codes.specs.Encoded.{parity_cell, sums_cell}
@@ -31,7 +31,7 @@ wrong s r = let e = equation s r in not (ltb e.row (rows s) && ltb e.column (col
 
 -- the test of a code at a prime
 disordered : (code p : ℕ) → Bool
-disordered code p = let s : Shape = record { code = code; p = p; cell = 1; width = Full } in any (equations s) (wrong s)
+disordered code p = let s : Shape = record { code = code; p = p; cell = 1; width = None } in any (equations s) (wrong s)
 
 in_order : (code : ℕ) → 1 ≤ code → code ≤ last_code → (p : ℕ) → listed p ≡ true → disordered code p ≡ false
 unfolding disordered wrong astray any equations rows columns equation

@@ -7,11 +7,12 @@ use native.Mathlib.Nat.{mul-le-mul, mul-le-mul_right}
 use native.Mathlib.Omega.{arith}
 use lib.Dec.{eqb, leb}
 use borrow.Author.Tests.{eqb-true, eq-eqb, ne_eqb, lt-ltb, le-ltb, le-leb}
+use Rattle.std.specs.Option.{unwrap_or}
+use Rattle.std.specs.declared.option.Option.{Option}
+use Rattle.std.specs.declared.option.Option.TheVariants.{None, Some}
 use Rattle.xor.proofs.Cases.{by_equal, by_less, either, clash, or_left, or_right, not_passed}
 use Rattle.codes.specs.declared.Shape.{Shape}
 use Rattle.codes.specs.Equations.{Equation, Code, rdp, hcode, xcode, evenodd, code_of, equation}
-use Rattle.codes.specs.declared.Width.{Width}
-use Rattle.codes.specs.declared.Width.TheVariants.{Full, Data}
 use Rattle.codes.specs.Shape.{last_code, listed, most_cell, rows, columns, equations, cells, without, missing, wrong_data, disks, existing, stripe_length, WellFormed}
 
 -- what holds of each of the ten primes holds of a listed number
@@ -73,10 +74,6 @@ of_code P s w x1 x2 x3 x4 = each_code (λ n. P (code_of (record { code = n; p = 
 pub by_code : {A : Type 0} (s : Shape) → WellFormed s → (s.code ≡ 1 → A) → (s.code ≡ 2 → A) → (s.code ≡ 3 → A) → (s.code ≡ 4 → A) → A
 by_code {A} s w x1 x2 x3 x4 = each_code (λ n. s.code ≡ n → A) x1 x2 x3 x4 s.code w.code_low w.code_high refl
 
--- what is none of the others is H-Code
-pub hcode_left : (s : Shape) → WellFormed s → s.code ≢ 1 → s.code ≢ 3 → s.code ≢ 4 → s.code ≡ 2
-hcode_left s w n1 n3 n4 = omega (arith, w.code_low, w.code_high)
-
 -- ---- rows, columns and equations, where the code is known
 
 module _ (s : Shape) where
@@ -122,10 +119,6 @@ module _ (s : Shape) where
         same : c.size + d - c.size ≡ d
         same = omega arith
 
-  -- RDP and H-Code have p - 1 rows and p + 1 columns
-  pub extents_other : WellFormed s → s.code ≢ 3 → s.code ≢ 4 → (s.p - 1 ≡ rows s) × (s.p + 1 ≡ columns s) × (2 * (s.p - 1) ≡ equations s)
-  extents_other w n n4 = by_equal s.code 1 (λ e. extents (rdp s.p) (rdp_is e)) (λ n1. extents (hcode s.p) (hcode_is (hcode_left s w n1 n n4)))
-
   pub columns_third : s.code ≡ 3 → s.p ≡ columns s
   columns_third e = columns_of (xcode s.p) (xcode_is e)
 
@@ -161,19 +154,19 @@ abbrev pub most_bytes : ℕ
 most_bytes = most_cells * most_cell
 
 -- where the number of data columns is right, one of them exists at least, and only of RDP some need not
-few_missing : (code p : ℕ) (width : Width) → 3 ≤ p → wrong_data code p width ≡ false → without p width + 2 ≤ p
-few_missing code p Full lo h = omega arith
-few_missing code p (Data m) lo h =
+few_missing : (code p : ℕ) (width : Option ℕ) → 3 ≤ p → wrong_data code p width ≡ false → without p width + 2 ≤ p
+few_missing code p None lo h = omega arith
+few_missing code p (Some m) lo h =
     by_equal code 1
     (λ e. by_equal m 0 (λ z. clash (or_right (not (eqb code 1)) (or_left (leb p m) (eq-eqb m 0 z))) h) (λ n. omega arith))
     (λ n. clash (or_left (eqb m 0 || leb p m) (ap not (ne_eqb code 1 n))) h)
 
-none_missing : (code p : ℕ) (width : Width) → code ≢ 1 → wrong_data code p width ≡ false → without p width ≡ 0
-none_missing code p Full n h = refl
-none_missing code p (Data m) n h = clash (or_left (eqb m 0 || leb p m) (ap not (ne_eqb code 1 n))) h
+none_missing : (code p : ℕ) (width : Option ℕ) → code ≢ 1 → wrong_data code p width ≡ false → without p width ≡ 0
+none_missing code p None n h = refl
+none_missing code p (Some m) n h = clash (or_left (eqb m 0 || leb p m) (ap not (ne_eqb code 1 n))) h
 
 -- the same, as the code tells them
-module _ (code p m : ℕ) (width : Width) (is : width ≡ Data m) where
+module _ (code p m : ℕ) (width : Option ℕ) (is : width ≡ Some m) where
   pub wrong_code : code ≢ 1 → true ≡ wrong_data code p width
   wrong_code n = rw is (sym (or_left (eqb m 0 || leb p m) (ap not (ne_eqb code 1 n))))
 
@@ -186,12 +179,17 @@ module _ (code p m : ℕ) (width : Width) (is : width ≡ Data m) where
   pub not_most : wrong_data code p width ≡ false → m < p
   not_most h = by_less m p (λ l. l) (λ l. clash (or_right (not (eqb code 1)) (or_right (eqb m 0) (le-leb p m l))) (sym (ap (wrong_data code p) is) ∙ h))
 
+-- how many data columns there are
+data_left : (code p : ℕ) (width : Option ℕ) → wrong_data code p width ≡ false → unwrap_or width (p - 1) ≡ p - 1 - without p width
+data_left code p None h = omega arith
+data_left code p (Some m) h = omega (arith, not_most code p m (Some m) refl h)
+
 module _ (s : Shape) where
-  pub full_missing : s.width ≡ Full → 0 ≡ missing s
+  pub full_missing : s.width ≡ None → 0 ≡ missing s
   unfolding missing
   full_missing e = rw e refl
 
-  pub data_missing : (m : ℕ) → s.width ≡ Data m → s.p - 1 - m ≡ missing s
+  pub data_missing : (m : ℕ) → s.width ≡ Some m → s.p - 1 - m ≡ missing s
   unfolding missing
   data_missing m e = rw e refl
 
@@ -272,11 +270,16 @@ module _ (s : Shape) (w : WellFormed s) where
   missing_other n = none_missing s.code s.p s.width n w.wide
 
   -- where a number of data columns is given
-  pub data_known : (m : ℕ) → s.width ≡ Data m → (missing s + m ≡ s.p - 1) × (s.code ≡ 1)
+  pub data_known : (m : ℕ) → s.width ≡ Some m → (missing s + m ≡ s.p - 1) × (s.code ≡ 1)
   data_known m e = (
     omega (arith, data_missing s m e, not_most s.code s.p m s.width e w.wide),
     by_equal s.code 1 (λ z. z) (λ n. clash (sym (wrong_code s.code s.p m s.width e n)) w.wide),
   )
+
+  -- the first column that need not exist
+  pub data_is : unwrap_or s.width (s.p - 1) ≡ s.p - 1 - missing s
+  unfolding missing
+  data_is = data_left s.code s.p s.width w.wide
 
   pub disks_is : disks s + missing s ≡ columns s
   unfolding disks

@@ -13,10 +13,9 @@ use Rattle.xor.proofs.Sums.{xors_same, xors_plus}
 use Rattle.codes.specs.declared.Shape.{Shape}
 use Rattle.codes.specs.declared.Line.{Line}
 use Rattle.codes.specs.Shape.{rows, cells, WellFormed}
-use Rattle.codes.specs.Geometry.{callers_cell}
 use Rattle.codes.specs.Equations.{evenodd_s}
 use Rattle.codes.specs.Encoded.{parity_cell, sums_cell, sum_over, total, is_parity}
-use Rattle.codes.specs.Lines.{shares, shares_cell, takes_shared, own_cell, sum_where, shared_sum, own_total, Covers, Walks}
+use Rattle.codes.specs.Lines.{shares, shares_cell, takes_shared, own_cell, sum_where, shared_sum, own_total, Covers}
 use Rattle.codes.proofs.Lines.{evenodd_rows, evenodd_diagonal_is}
 use Rattle.codes.proofs.Geometry.{number_at, row_at, column_at}
 use Rattle.codes.proofs.Positions.{evenodd_parity}
@@ -86,8 +85,8 @@ module _ (s : Shape) where
   unfolding total
   own_total_lem q h f = ap (λ (x : ℕ). f (parity_cell s q) ⊕ x) (own_all q h f)
 
-  pub plain_walks : (q : ℕ) (l : Line) → takes_shared s q ≡ false → l.to ≡ callers_cell s (parity_cell s q) → Covers s (sums_cell s q) l → Walks s q l
-  plain_walks q l h to covers = record { to = to; own = covers_same s (sums_cell s q) (own_cell s q) l (λ c lc. own_plain q h c) covers }
+  pub plain_walks : (q : ℕ) (l : Line) → takes_shared s q ≡ false → Covers s (sums_cell s q) l → Covers s (own_cell s q) l
+  plain_walks q l h = covers_same s (sums_cell s q) (own_cell s q) l (λ c lc. own_plain q h c)
 
 module _ (s : Shape) (w : WellFormed s) where
   -- one that takes them in sums them

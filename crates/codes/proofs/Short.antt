@@ -7,6 +7,9 @@ use native.Mathlib.Nat.{mod-eq_of_lt, add-mod_right, mul-le-mul, add-mul, one-mu
 use native.Mathlib.Omega.{arith}
 use lib.Dec.{eqb, ltb}
 use borrow.Author.Tests.{lt-ltb, le-ltb, eq-eqb, ne_eqb, ltb-true, eqb-true}
+use Rattle.std.specs.Option.{unwrap_or}
+use Rattle.std.specs.declared.option.Option.{Option}
+use Rattle.std.specs.declared.option.Option.TheVariants.{None, Some}
 use Rattle.xor.proofs.Cases.{by_less, by_equal, and_left, and_right, and_both}
 use Rattle.codes.specs.declared.Shape.{Shape}
 use Rattle.codes.specs.declared.Line.{Line}
@@ -14,7 +17,7 @@ use Rattle.codes.specs.Shape.{rows, equations, disks, cell_number, missing, Well
 use Rattle.codes.specs.Geometry.{gap, is_there, column_of, lies_at, callers_cell}
 use Rattle.codes.specs.Equations.{rdp_row, rdp_diagonal}
 use Rattle.codes.specs.Encoded.{parity_cell, sums_cell}
-use Rattle.codes.specs.Lines.{line_count, Covers, Walks}
+use Rattle.codes.specs.Lines.{line_count, own_cell, Covers}
 use Rattle.codes.proofs.Shapes.{low, high, missing_low, disks_is}
 use Rattle.codes.proofs.Residues.{wrapped}
 use Rattle.codes.proofs.Lines.{rdp_rows, rdp_columns, rdp_n, rdp_row_is}
@@ -80,9 +83,9 @@ module _ (s : Shape) (w : WellFormed s) (is-rdp : s.code ≡ 1) where
 
   -- ---- rows
 
-  pub row_walks : (q : ℕ) → q < s.p - 1 → (l : Line) → l.to ≡ callers_cell s (parity_cell s q) → l.count ≡ gap s → l.first ≡ q → l.step ≡ s.p - 1 → l.turn ≡ 0 → l.second ≡ 0 → l.extra ≡ 0 → Walks s q l
-  row_walks q lq l to count first step turn second extra =
-      plain_walks s q l (none_takes s (λ e. omega arith) q) to (goes_covers s w (sums_cell s q) l (λ k. k) (λ k. q)
+  pub row_walks : (q : ℕ) → q < s.p - 1 → (l : Line) → l.count ≡ gap s → l.first ≡ q → l.step ≡ s.p - 1 → l.turn ≡ 0 → l.second ≡ 0 → l.extra ≡ None → Covers s (own_cell s q) l
+  row_walks q lq l count first step turn second extra =
+      plain_walks s q l (none_takes s (λ e. omega arith) q) (goes_covers s w (sums_cell s q) l (λ k. k) (λ k. q)
       (record {
         in_row = λ k lk. omega (arith, height);
         in_place = λ k lk. omega (arith, many, all_disks);
@@ -141,7 +144,7 @@ module _ (s : Shape) (w : WellFormed s) (is-rdp : s.code ≡ 1) where
         inr (ap (lies_at s) same ∙ parity_lies, ⊎_elim (λ x. absurd (omega arith)) (λ x. omega (arith, low s w)) (at_diagonal i j li lj e)))
 
     module _ (l : Line) (count : l.count ≡ cond (ltb (d + 1) m) (m - 1) m) (first : l.first ≡ d) (step : l.step ≡ n - 1) (turn : l.turn ≡ d + 1)
-        (second : l.second ≡ (d + 2) * n + (n - 1)) (extra : l.extra ≡ cond (eqb (d + 1) n) 0 (m * n + (d + 1))) where
+        (second : l.second ≡ (d + 2) * n + (n - 1)) (extra : l.extra ≡ cond (eqb (d + 1) n) None (Some (m * n + (d + 1)))) where
       -- place and row of cell k: up to column d, past column d + 1, and in the row parity column
       u : ℕ → ℕ
       u k = cond (ltb k l.count) (cond (ltb k (d + 1)) k (k + 1)) m
@@ -180,11 +183,11 @@ module _ (s : Shape) (w : WellFormed s) (is-rdp : s.code ≡ 1) where
       lonely : d + 1 ≡ n → line_count l ≡ l.count
       lonely e = count_plain l (extra ∙ rw (eq-eqb (d + 1) n e) refl)
 
-      parity_extra : d + 1 ≢ n → l.extra ≡ m * n + (d + 1)
+      parity_extra : d + 1 ≢ n → l.extra ≡ Some (m * n + (d + 1))
       parity_extra e = extra ∙ rw (ne_eqb (d + 1) n e) refl
 
       one_more : d + 1 ≢ n → line_count l ≡ l.count + 1
-      one_more e = count_extra l (λ z. omega (arith, parity_extra e))
+      one_more e = count_extra l _ (parity_extra e)
 
       -- each cell is walked, or it is that of the row parity column
       by_cell : {A : Type 0} (k : ℕ) → k < line_count l → (k < l.count → k < d + 1 → A) → (k < l.count → d + 1 ≤ k → A) → (k ≡ l.count → d + 1 ≢ n → A) → A
@@ -211,9 +214,9 @@ module _ (s : Shape) (w : WellFormed s) (is-rdp : s.code ≡ 1) where
           plenty : l.count ≤ line_count l
           plenty = by_equal (d + 1) n (λ e. omega (arith, lonely e)) (λ e. omega (arith, one_more e))
 
-      pub diagonal_walks : (q : ℕ) → s.p - 1 + d ≡ q → l.to ≡ callers_cell s (parity_cell s q) → Walks s q l
-      diagonal_walks q known to =
-          plain_walks s q l (none_takes s (λ e. omega arith) q) to (subst (λ (r : ℕ). Covers s (sums_cell s r) l) known (goes_covers s w (sums_cell s (s.p - 1 + d)) l u i
+      pub diagonal_walks : (q : ℕ) → s.p - 1 + d ≡ q → Covers s (own_cell s q) l
+      diagonal_walks q known =
+          plain_walks s q l (none_takes s (λ e. omega arith) q) (subst (λ (r : ℕ). Covers s (sums_cell s r) l) known (goes_covers s w (sums_cell s (s.p - 1 + d)) l u i
           (record {
             in_row = λ k lk. omega (arith, (on k lk).0, height);
             in_place = λ k lk. omega (arith, (column_on (i k) (u k) (on k lk).1).0, all_disks);
@@ -231,7 +234,7 @@ module _ (s : Shape) (w : WellFormed s) (is-rdp : s.code ≡ 1) where
             at = λ k lk. by_less k l.count
                 (λ z. cell_walked l k z ∙ walk_is l (rows s) u i start turned next k z)
                 (λ z. by_equal (d + 1) n (λ e. absurd (omega (arith, lonely e)))
-                (λ e. cell_extra l k z ∙ parity_extra e ∙ sym (ap₂ (λ (a b : ℕ). a * rows s + b) (corner k z).0 (corner k z).1 ∙ ap (λ (a : ℕ). m * a + (d + 1)) (sym height))));
+                (λ e. cell_extra l k z ∙ ap (λ (o : Option ℕ). unwrap_or o 0) (parity_extra e) ∙ sym (ap₂ (λ (a b : ℕ). a * rows s + b) (corner k z).0 (corner k z).1 ∙ ap (λ (a : ℕ). m * a + (d + 1)) (sym height))));
           })
           some (count_few l (omega (arith, most, m_high, high s w))) (omega (arith, high s w)) (omega (arith, small_cells (d + 2) (omega (arith, high s w)), high s w))))
         where

@@ -9,6 +9,9 @@ use native.Mathlib.Numerals.{add-one}
 use native.Mathlib.Omega.{arith}
 use lib.Dec.{eqb}
 use borrow.Author.Tests.{eq-eqb, ne_eqb, lt-ltb, le-ltb}
+use Rattle.std.specs.Option.{unwrap_or}
+use Rattle.std.specs.declared.option.Option.{Option}
+use Rattle.std.specs.declared.option.Option.TheVariants.{None, Some}
 use Rattle.xor.specs.Xor.{xors}
 use Rattle.xor.proofs.Cases.{by_equal, by_test, and_left, and_right, and_both}
 use Rattle.xor.proofs.Sums.{xors_same, nothing, Lists, xors_listed}
@@ -44,27 +47,35 @@ walk_is l n u i first turned next (suc k) lk =
 
 -- ---- the cells of a line
 
-pub count_plain : (l : Line) → l.extra ≡ 0 → line_count l ≡ l.count
+pub count_plain : (l : Line) → l.extra ≡ None → line_count l ≡ l.count
 unfolding line_count
-count_plain l e = rw (eq-eqb l.extra 0 e) refl
+count_plain l e = rw e refl
 
-pub count_extra : (l : Line) → l.extra ≢ 0 → line_count l ≡ l.count + 1
+pub count_extra : (l : Line) (x : ℕ) → l.extra ≡ Some x → line_count l ≡ l.count + 1
 unfolding line_count
-count_extra l e = rw (ne_eqb l.extra 0 e) refl
+count_extra l x e = rw e refl
 
 pub cell_walked : (l : Line) (k : ℕ) → k < l.count → line_cell l k ≡ walked l k
 unfolding line_cell
 cell_walked l k lk = rw (lt-ltb k l.count lk) refl
 
-pub cell_extra : (l : Line) (k : ℕ) → l.count ≤ k → line_cell l k ≡ l.extra
+pub cell_extra : (l : Line) (k : ℕ) → l.count ≤ k → line_cell l k ≡ unwrap_or l.extra 0
 unfolding line_cell
 cell_extra l k lk = rw (le-ltb k l.count lk) refl
 
+-- there is an extra cell, or there is none
+by_extra : {A : Type 0} (l : Line) → (l.extra ≡ None → A) → ((x : ℕ) → l.extra ≡ Some x → A) → A
+by_extra {A} l none some = cases l.extra refl
+  where
+    cases : (o : Option ℕ) → l.extra ≡ o → A
+    cases None e = none e
+    cases (Some x) e = some x e
+
 pub count_most : (l : Line) → l.count ≤ line_count l
-count_most l = by_equal l.extra 0 (λ e. omega (arith, count_plain l e)) (λ e. omega (arith, count_extra l e))
+count_most l = by_extra l (λ e. omega (arith, count_plain l e)) (λ x e. omega (arith, count_extra l x e))
 
 pub count_few : (l : Line) → l.count ≤ 30 → line_count l ≤ 31
-count_few l h = by_equal l.extra 0 (λ e. omega (arith, count_plain l e)) (λ e. omega (arith, count_extra l e))
+count_few l h = by_extra l (λ e. omega (arith, count_plain l e)) (λ x e. omega (arith, count_extra l x e))
 
 -- ---- a line that lies on the cells of a test
 
@@ -141,5 +152,5 @@ module _ (s : Shape) (w : WellFormed s) (test : ℕ → Bool) (l : Line) where
         walked_small : (k : ℕ) → k < l.count → walked l k ≤ 1024
         walked_small k lk = omega (arith, cell_walked l k lk, small k (omega (arith, count_most l)))
 
-        extra_small : l.extra ≤ 1024
-        extra_small = by_equal l.extra 0 (λ e. omega arith) (λ e. omega (arith, cell_extra l l.count (omega arith), small l.count (omega (arith, count_extra l e))))
+        extra_small : unwrap_or l.extra 0 ≤ 1024
+        extra_small = by_extra l (λ e. rw e (omega arith)) (λ x e. omega (arith, cell_extra l l.count (omega arith), small l.count (omega (arith, count_extra l x e))))

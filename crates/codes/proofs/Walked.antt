@@ -10,12 +10,16 @@ use lib.Dec.{eqb}
 use lib.ListN.{length, get_or, set, length-set}
 use lib.Seq.{get_or-set_same, get_or-set_other}
 use borrow.Author.Tests.{eq-eqb, ne_eqb}
+use Rattle.std.specs.Option.{unwrap_or}
+use Rattle.std.specs.declared.option.Option.{Option}
+use Rattle.std.specs.declared.option.Option.TheVariants.{None, Some}
 use Rattle.xor.specs.Xor.{◌⊕◌, xors}
 use Rattle.xor.proofs.Cases.{by_equal, clash, and_left}
 use Rattle.xor.proofs.Algebra.{⊕_comm}
 use Rattle.xor.proofs.Sums.{xors_same, xors_more}
 use Rattle.codes.specs.declared.Shape.{Shape}
 use Rattle.codes.specs.declared.Line.{Line}
+use Rattle.codes.specs.declared.Walk.{Walk}
 use Rattle.codes.specs.declared.Sources.{Sources}
 use Rattle.codes.specs.Shape.{equations, stripe_length, WellFormed}
 use Rattle.codes.specs.Geometry.{callers_cell, place}
@@ -30,7 +34,7 @@ use Rattle.codes.proofs.Stepping.{walked_next, count_plain, count_extra, cell_wa
 
 -- a line by its numbers alone
 abbrev pub line : ℕ → ℕ → ℕ → ℕ → Line
-line first step turn second = record { to = 0; count = 0; first = first; step = step; turn = turn; second = second; extra = 0 }
+line first step turn second = record { count = 0; first = first; step = step; turn = turn; second = second; extra = None }
 
 -- the code has filled in the places of the first k cells, and stands at cell k
 pub record Filled (l : Line) (count : ℕ) (places : List ℕ) (at k : ℕ) : Type 0 where
@@ -82,20 +86,20 @@ module _ (s : Shape) (w : WellFormed s) (l : Line) where
 -- ---- all cells of a line: those that it walks, and the extra one
 
 module _ (s : Shape) (l : Line) (places : List ℕ) (at : Placed s l places) where
-  pub all_plain : l.extra ≡ 0 → PlacedAll s l l.count places
+  pub all_plain : l.extra ≡ None → PlacedAll s l l.count places
   all_plain e = record {
     all = sym (count_plain l e);
     long = at.long;
     at = λ k lk. at.at k lk ∙ ap (λ (c : ℕ). c * s.cell) (sym (cell_walked l k lk));
   }
 
-  pub all_extra : l.count ≤ 31 → l.extra ≢ 0 → PlacedAll s l (l.count + 1) (set places l.count (l.extra * s.cell))
-  all_extra few e = record {
-    all = sym (count_extra l e);
-    long = length-set places l.count (l.extra * s.cell) ∙ at.long;
+  pub all_extra : (x : ℕ) → l.count ≤ 31 → l.extra ≡ Some x → PlacedAll s l (l.count + 1) (set places l.count (x * s.cell))
+  all_extra x few e = record {
+    all = sym (count_extra l x e);
+    long = length-set places l.count (x * s.cell) ∙ at.long;
     at = λ k lk. by_equal k l.count
-        (λ z. ap (λ (j : ℕ). get_or (set places l.count (l.extra * s.cell)) j 0) z ∙ get_or-set_same places l.count (l.extra * s.cell) 0 (omega (arith, at.long)) ∙ ap (λ (c : ℕ). c * s.cell) (sym (cell_extra l k (omega arith))))
-        (λ z. let lk' : k < l.count = omega arith in get_or-set_other places l.count k (l.extra * s.cell) 0 z ∙ at.at k lk' ∙ ap (λ (c : ℕ). c * s.cell) (sym (cell_walked l k lk')));
+        (λ z. ap (λ (j : ℕ). get_or (set places l.count (x * s.cell)) j 0) z ∙ get_or-set_same places l.count (x * s.cell) 0 (omega (arith, at.long)) ∙ ap (λ (c : ℕ). c * s.cell) (sym (cell_extra l k (omega arith) ∙ ap (λ (o : Option ℕ). unwrap_or o 0) e)))
+        (λ z. let lk' : k < l.count = omega arith in get_or-set_other places l.count k (x * s.cell) 0 z ∙ at.at k lk' ∙ ap (λ (c : ℕ). c * s.cell) (sym (cell_walked l k lk')));
   }
 
 -- ---- the cells that a line covers, listed
@@ -128,7 +132,7 @@ module _ (s : Shape) (w : WellFormed s) (q : ℕ) (lq : q < equations s) where
   pub parity_small : place s (parity_cell s q) ≤ most_bytes
   parity_small = place_small s w (parity_cell s q) ((ordered s w).inside q lq) (parity_there s w q lq)
 
-  module _ (l : Line) (h : Walks s q l) (n : ℕ) (places : List ℕ) (p : PlacedAll s l n places) where
+  module _ (l : Walk) (h : Walks s q l) (n : ℕ) (places : List ℕ) (p : PlacedAll s l.own n places) where
     -- the parity cell is none of those that its equation sums
     parity_apart : (k : ℕ) → k < n → h.own.cell k ≢ parity_cell s q
     unfolding own_cell
@@ -147,9 +151,9 @@ module _ (s : Shape) (w : WellFormed s) (q : ℕ) (lq : q < equations s) where
       to = to_is;
       few = omega (arith, p.all, h.own.short.few);
       ends = subst (λ (x : ℕ). x + s.cell ≤ stripe_length s) (sym to_is) (place_inside s w (parity_cell s q) ((ordered s w).inside q lq) (parity_there s w q lq));
-      apart = λ k lk. subst (λ (x : ℕ). (x + s.cell ≤ to) ⊎ (to + s.cell ≤ x)) (sym (at_place s w (own_cell s q) l h.own n places p k lk))
+      apart = λ k lk. subst (λ (x : ℕ). (x + s.cell ≤ to) ⊎ (to + s.cell ≤ x)) (sym (at_place s w (own_cell s q) l.own h.own n places p k lk))
           (subst (λ (y : ℕ). (place s (h.own.cell k) + s.cell ≤ y) ⊎ (y + s.cell ≤ place s (h.own.cell k))) (sym to_is) (place_apart s w (h.own.cell k) (parity_cell s q) (h.own.there k (omega (arith, p.all))) (parity_there s w q lq) (parity_apart k lk)));
-      listed = listing s w (own_cell s q) l h.own n places p;
+      listed = listing s w (own_cell s q) l.own h.own n places p;
     }
 
 -- the place of the parity cell behind the others

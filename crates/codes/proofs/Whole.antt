@@ -7,6 +7,7 @@ use native.Mathlib.Nat.{mod-lt, mod-eq_of_lt, mod-add-mod, add-mod_right, mul-le
 use native.Mathlib.Omega.{arith}
 use lib.Dec.{eqb, leb, ltb}
 use borrow.Author.Tests.{lt-ltb, le-ltb, le-leb, eq-eqb, ne_eqb, ltb-true, eqb-true, eqb-false, not-true}
+use Rattle.std.specs.declared.option.Option.TheVariants.{None}
 use Rattle.xor.proofs.Cases.{by_less, and_left, and_right, and_both}
 use Rattle.codes.specs.declared.Shape.{Shape}
 use Rattle.codes.specs.declared.Line.{Line}
@@ -14,7 +15,7 @@ use Rattle.codes.specs.Shape.{rows, columns, equations, cell_number, missing, We
 use Rattle.codes.specs.Geometry.{callers_cell}
 use Rattle.codes.specs.Equations.{Equation, hcode_row, hcode_anti_diagonal, evenodd_row, evenodd_s, evenodd_diagonal, equation}
 use Rattle.codes.specs.Encoded.{parity_cell, sums_cell}
-use Rattle.codes.specs.Lines.{line_count, shares, shares_cell, takes_shared, own_cell, Covers, Walks}
+use Rattle.codes.specs.Lines.{line_count, shares, shares_cell, takes_shared, own_cell, Covers}
 use Rattle.codes.proofs.Shapes.{low, high, small_equations, missing_other, disks_is}
 use Rattle.codes.proofs.Residues.{wrapped, shift_once}
 use Rattle.codes.proofs.Lines.{hcode_rows, hcode_columns, hcode_n, hcode_row_is, xcode_rows, xcode_columns, xcode_n, xcode_first_is, xcode_second_is, evenodd_rows, evenodd_columns, evenodd_n, evenodd_row_is, evenodd_diagonal_is}
@@ -49,7 +50,7 @@ module _ (s : Shape) (w : WellFormed s) where
         ap₂ (λ (x y : ℕ). x * y + i) (sym (lies_all s full j)) height ∙ sym (callers_at s w i j li) ∙ ap (callers_cell s) (sym at)
 
     -- a line that is in row i k of column u k at cell k, once in each cell that passes the test, covers them
-    module _ (test : ℕ → Bool) (sums : ℕ → ℕ → Bool) (is : (x y : ℕ) → x < rows s → y < columns s → test (cell_number s x y) ≡ sums x y) (l : Line) (extra : l.extra ≡ 0) (u i : ℕ → ℕ) where
+    module _ (test : ℕ → Bool) (sums : ℕ → ℕ → Bool) (is : (x y : ℕ) → x < rows s → y < columns s → test (cell_number s x y) ≡ sums x y) (l : Line) (extra : l.extra ≡ None) (u i : ℕ → ℕ) where
       pub whole_covers : ((k : ℕ) → k < l.count → (i k < rows s) × (u k < columns s) × (sums (i k) (u k) ≡ true))
           → ((x y : ℕ) → x < rows s → y < columns s → sums x y ≡ true → (k : ℕ) × (k < l.count) × (i k ≡ x) × (u k ≡ y))
           → ((j k : ℕ) → j < l.count → k < l.count → i j ≡ i k → u j ≡ u k → j ≡ k)
@@ -72,15 +73,15 @@ module _ (s : Shape) (w : WellFormed s) where
           many = count_plain l extra
 
     -- and walks its equation, where that takes in nothing
-    module _ (q : ℕ) (e : Equation) (is : equation s q ≡ e) (plain : takes_shared s q ≡ false) (l : Line) (extra : l.extra ≡ 0) (u i : ℕ → ℕ) where
+    module _ (q : ℕ) (e : Equation) (is : equation s q ≡ e) (plain : takes_shared s q ≡ false) (l : Line) (extra : l.extra ≡ None) (u i : ℕ → ℕ) where
       pub whole_walks : ((k : ℕ) → k < l.count → (i k < rows s) × (u k < columns s) × (e.sums (i k) (u k) ≡ true))
           → ((x y : ℕ) → x < rows s → y < columns s → e.sums x y ≡ true → (k : ℕ) × (k < l.count) × (i k ≡ x) × (u k ≡ y))
           → ((j k : ℕ) → j < l.count → k < l.count → i j ≡ i k → u j ≡ u k → j ≡ k)
           → l.first ≡ u 0 * rows s + i 0 → ((k : ℕ) → suc k < l.count → suc k ≡ l.turn → l.second ≡ u (suc k) * rows s + i (suc k))
           → ((k : ℕ) → suc k < l.count → suc k ≢ l.turn → (u (suc k) ≡ u k + 1) × (i (suc k) + rows s ≡ i k + l.step))
-          → l.to ≡ callers_cell s (parity_cell s q) → 1 ≤ l.count → l.count ≤ 31 → l.step ≤ 1024 → l.second ≤ 1024 → Walks s q l
-      whole_walks on every once first turned next to some few step second =
-          plain_walks s q l plain to (whole_covers (sums_cell s q) e.sums (λ x y lx ly. sums_of s w q e is x y lx) l extra u i on every once first turned next some few step second)
+          → 1 ≤ l.count → l.count ≤ 31 → l.step ≤ 1024 → l.second ≤ 1024 → Covers s (own_cell s q) l
+      whole_walks on every once first turned next some few step second =
+          plain_walks s q l plain (whole_covers (sums_cell s q) e.sums (λ x y lx ly. sums_of s w q e is x y lx) l extra u i on every once first turned next some few step second)
 
   -- ---- H-Code: column k, or k + 1 past column r
 
@@ -132,8 +133,8 @@ module _ (s : Shape) (w : WellFormed s) where
         rest : q - (s.p - 1) < s.p - 1
         rest = omega (arith, hcode_n s w is-hcode)
 
-    pub hcode_row_walks : (q : ℕ) → q < s.p - 1 → (l : Line) → l.to ≡ callers_cell s (parity_cell s q) → l.count ≡ s.p - 1 → l.first ≡ q → l.step ≡ s.p - 1 → l.turn ≡ q + 1 → l.second ≡ (q + 2) * (s.p - 1) + q → l.extra ≡ 0 → Walks s q l
-    hcode_row_walks q lq l to count first step turn second extra =
+    pub hcode_row_walks : (q : ℕ) → q < s.p - 1 → (l : Line) → l.count ≡ s.p - 1 → l.first ≡ q → l.step ≡ s.p - 1 → l.turn ≡ q + 1 → l.second ≡ (q + 2) * (s.p - 1) + q → l.extra ≡ None → Covers s (own_cell s q) l
+    hcode_row_walks q lq l count first step turn second extra =
         whole_walks not_rdp_lem q (hcode_row s.p q) (hcode_row_is s w is-hcode q lq) (none_takes s (λ e. omega arith) q) l extra (skip q) (λ k. q)
         (λ k lk. (
           omega (arith, tall),
@@ -150,7 +151,7 @@ module _ (s : Shape) (w : WellFormed s) where
         (first ∙ (let z : q ≡ 0 * rows s + q = omega (arith, zero-mul (rows s)) in z) ∙ ap (λ (x : ℕ). x * rows s + q) (sym (before q 0 (omega arith))))
         (λ k lk e. second ∙ ap₂ (λ (x y : ℕ). x * y + q) (let z : q + 2 ≡ suc k + 1 = omega arith in z) tall ∙ ap (λ (x : ℕ). x * rows s + q) (sym (behind q (suc k) (omega arith))))
         (λ k lk e. (onward q k (λ z. e (omega arith)), omega (arith, tall)))
-        to (omega (arith, low s w)) (omega (arith, high s w)) (omega (arith, high s w)) (omega (arith, small_columns (q + 2) (s.p - 1) (omega (arith, high s w)) (omega arith), high s w))
+        (omega (arith, low s w)) (omega (arith, high s w)) (omega (arith, high s w)) (omega (arith, small_columns (q + 2) (s.p - 1) (omega (arith, high s w)) (omega arith), high s w))
       where
         ends : (r k : ℕ) {y : ℕ} → k ≤ y → skip r k ≡ y → y < s.p → r < s.p - 1 → l.count ≡ s.p - 1 → k < l.count
         ends r k ky e ly lr c = by_less k (r + 1) (λ a. omega (arith, before r k a)) (λ a. omega (arith, behind r k a))
@@ -179,9 +180,9 @@ module _ (s : Shape) (w : WellFormed s) where
       row_low : (k : ℕ) → k < s.p - 1 → row r k < s.p - 1
       row_low k lk = by_less k (r + 1) (λ a. omega (arith, row_before r k a)) (λ a. omega (arith, row_behind r k a))
 
-      pub hcode_anti_walks : (q : ℕ) → equation s q ≡ hcode_anti_diagonal s.p r → (l : Line) → l.to ≡ callers_cell s (parity_cell s q) → l.count ≡ s.p - 1 → l.first ≡ s.p - 1 - 1 - r → l.step ≡ s.p - 1 + 1 → l.turn ≡ r + 1
-          → l.second ≡ (r + 2) * (s.p - 1) → l.extra ≡ 0 → Walks s q l
-      hcode_anti_walks q is l to count first step turn second extra =
+      pub hcode_anti_walks : (q : ℕ) → equation s q ≡ hcode_anti_diagonal s.p r → (l : Line) → l.count ≡ s.p - 1 → l.first ≡ s.p - 1 - 1 - r → l.step ≡ s.p - 1 + 1 → l.turn ≡ r + 1
+          → l.second ≡ (r + 2) * (s.p - 1) → l.extra ≡ None → Covers s (own_cell s q) l
+      hcode_anti_walks q is l count first step turn second extra =
           whole_walks not_rdp_lem q (hcode_anti_diagonal s.p r) is (none_takes s (λ e. omega arith) q) l extra (skip r) (row r)
           (λ k lk. (
             omega (arith, row_low k (omega arith), tall),
@@ -205,7 +206,7 @@ module _ (s : Shape) (w : WellFormed s) where
                 (λ a. omega (arith, row_before r (suc k) a, row_before r k (omega arith), tall))
                 (λ a. omega (arith, row_behind r (suc k) a, row_behind r k (omega arith), tall)),
           ))
-          to (omega (arith, low s w)) (omega (arith, high s w)) (omega (arith, high s w)) (omega (arith, small_columns (r + 2) (s.p - 1) (omega (arith, high s w)) (omega arith)))
+          (omega (arith, low s w)) (omega (arith, high s w)) (omega (arith, high s w)) (omega (arith, small_columns (r + 2) (s.p - 1) (omega (arith, high s w)) (omega arith)))
         where
           ends : (k : ℕ) {y : ℕ} → k ≤ y → skip r k ≡ y → y < s.p → k < s.p - 1
           ends k ky e ly = by_less k (r + 1) (λ a. omega (arith, before r k a)) (λ a. omega (arith, behind r k a))
@@ -248,11 +249,11 @@ module _ (s : Shape) (w : WellFormed s) where
 
     -- a family whose line is in row i k at cell k, which is one row of each below p - 2
     module _ (q row c : ℕ) (at : ℕ → ℕ) (is : equation s q ≡ record { row = row; column = c; sums = λ x y. ltb x (s.p - 2) && eqb y (at x) }) (l : Line) (count : l.count ≡ s.p - 2)
-        (column : ℕ) (lc : column < s.p) (turn : l.turn ≡ s.p - column) (extra : l.extra ≡ 0) (i : ℕ → ℕ) (low-i : (k : ℕ) → k < s.p - 2 → i k < s.p - 2) (back : (k : ℕ) → k < s.p - 2 → i (i k) ≡ k)
+        (column : ℕ) (lc : column < s.p) (turn : l.turn ≡ s.p - column) (extra : l.extra ≡ None) (i : ℕ → ℕ) (low-i : (k : ℕ) → k < s.p - 2 → i k < s.p - 2) (back : (k : ℕ) → k < s.p - 2 → i (i k) ≡ k)
         (goes : (k : ℕ) → k < s.p - 2 → (column + k) % s.p ≡ at (i k)) where
       family : l.first ≡ column * s.p + i 0 → ((k : ℕ) → suc k < s.p - 2 → suc k ≡ l.turn → l.second ≡ i (suc k)) → ((k : ℕ) → suc k < s.p - 2 → i (suc k) + s.p ≡ i k + l.step)
-          → l.to ≡ callers_cell s (parity_cell s q) → l.step ≤ 1024 → l.second ≤ 1024 → Walks s q l
-      family first second next to step small =
+          → l.step ≤ 1024 → l.second ≤ 1024 → Covers s (own_cell s q) l
+      family first second next step small =
           whole_walks not_rdp' q (record { row = row; column = c; sums = λ x y. ltb x (s.p - 2) && eqb y (at x) }) is (none_takes s (λ e. omega arith) q) l extra (around column) i
           (λ k lk. let lk' : k < s.p - 2 = omega arith in
           (omega (arith, low-i k lk', square), omega (arith, around_is column k lc (omega arith), below_mod (column + k), xcode_columns s w is-xcode), and_both (lt-ltb (i k) (s.p - 2) (low-i k lk')) (eq-eqb (around column k) (at (i k)) (around_is column k lc (omega arith) ∙ goes k lk'))))
@@ -263,23 +264,23 @@ module _ (s : Shape) (w : WellFormed s) where
           (first ∙ ap₂ (λ (x y : ℕ). x * y + i 0) (sym (near column 0 (omega arith) ∙ (let z : column + 0 ≡ column = omega arith in z))) square)
           (λ k lk e. second k (omega arith) e ∙ (let z : i (suc k) ≡ 0 * rows s + i (suc k) = omega (arith, zero-mul (rows s)) in z) ∙ ap (λ (x : ℕ). x * rows s + i (suc k)) (sym (far column (suc k) (omega arith) ∙ (let z : suc k - (s.p - column) ≡ 0 = omega arith in z))))
           (λ k lk e. (by_less (suc k) (s.p - column) (λ a. omega (arith, near column (suc k) a, near column k (omega arith))) (λ a. omega (arith, far column (suc k) a, far column k (omega arith))), omega (arith, next k (omega arith), square)))
-          to (omega (arith, low s w)) (omega (arith, high s w)) step small
+          (omega (arith, low s w)) (omega (arith, high s w)) step small
 
-    pub xcode_first_walks : (q column : ℕ) → q < s.p → column ≡ (q + 2) % s.p → (l : Line) → l.to ≡ callers_cell s (parity_cell s q) → l.count ≡ s.p - 2 → l.first ≡ column * s.p → l.step ≡ s.p + 1 → l.turn ≡ s.p - column → l.second ≡ s.p - column → l.extra ≡ 0 → Walks s q l
-    xcode_first_walks q column lq starts l to count first step turn second extra =
+    pub xcode_first_walks : (q column : ℕ) → q < s.p → column ≡ (q + 2) % s.p → (l : Line) → l.count ≡ s.p - 2 → l.first ≡ column * s.p → l.step ≡ s.p + 1 → l.turn ≡ s.p - column → l.second ≡ s.p - column → l.extra ≡ None → Covers s (own_cell s q) l
+    xcode_first_walks q column lq starts l count first step turn second extra =
         family q (s.p - 2) q (λ k. (q + k + 2) % s.p) (xcode_first_is s w is-xcode q lq) l count column below turn extra (λ k. k) (λ k lk. lk) (λ k lk. refl)
         (λ k lk. ap (λ (x : ℕ). (x + k) % s.p) starts ∙ mod-add-mod (q + 2) s.p k ∙ ap (λ (x : ℕ). x % s.p) (let z : q + 2 + k ≡ q + k + 2 = omega arith in z))
-        (first ∙ (let z : column * s.p ≡ column * s.p + 0 = omega arith in z)) (λ k lk e. second ∙ sym turn ∙ sym e) (λ k lk. omega arith) to (omega (arith, high s w)) (omega (arith, high s w))
+        (first ∙ (let z : column * s.p ≡ column * s.p + 0 = omega arith in z)) (λ k lk e. second ∙ sym turn ∙ sym e) (λ k lk. omega arith) (omega (arith, high s w)) (omega (arith, high s w))
       where
         below : column < s.p
         below = omega (arith, starts, below_mod (q + 2))
 
-    pub xcode_second_walks : (q column : ℕ) → s.p ≤ q → q < equations s → column ≡ (q - s.p + 1) % s.p → (l : Line) → l.to ≡ callers_cell s (parity_cell s q) → l.count ≡ s.p - 2 → l.first ≡ column * s.p + (s.p - 3) → l.step ≡ s.p - 1
-        → l.turn ≡ s.p - column → l.second ≡ column - 3 → l.extra ≡ 0 → Walks s q l
-    xcode_second_walks q column lo hi starts l to count first step turn second extra =
+    pub xcode_second_walks : (q column : ℕ) → s.p ≤ q → q < equations s → column ≡ (q - s.p + 1) % s.p → (l : Line) → l.count ≡ s.p - 2 → l.first ≡ column * s.p + (s.p - 3) → l.step ≡ s.p - 1
+        → l.turn ≡ s.p - column → l.second ≡ column - 3 → l.extra ≡ None → Covers s (own_cell s q) l
+    xcode_second_walks q column lo hi starts l count first step turn second extra =
         family q (s.p - 1) (q - s.p) (λ k. (s.p + (q - s.p) - k - 2) % s.p) (xcode_second_is s w is-xcode q lo) l count column below turn extra (λ k. s.p - 3 - k) (λ k lk. omega (arith, low s w)) (λ k lk. twice k lk)
         (λ k lk. ap (λ (x : ℕ). (x + k) % s.p) starts ∙ mod-add-mod (q - s.p + 1) s.p k ∙ ap (λ (x : ℕ). x % s.p) (up k lk))
-        (first ∙ ap (λ (x : ℕ). column * s.p + x) (let z : s.p - 3 ≡ s.p - 3 - 0 = omega arith in z)) (λ k lk e. second ∙ (let z : column - 3 ≡ s.p - 3 - suc k = omega (arith, turn) in z)) (λ k lk. one_up s.p k l.step lk step) to (omega (arith, high s w)) (omega (arith, below, high s w))
+        (first ∙ ap (λ (x : ℕ). column * s.p + x) (let z : s.p - 3 ≡ s.p - 3 - 0 = omega arith in z)) (λ k lk e. second ∙ (let z : column - 3 ≡ s.p - 3 - suc k = omega (arith, turn) in z)) (λ k lk. one_up s.p k l.step lk step) (omega (arith, high s w)) (omega (arith, below, high s w))
       where
         below : column < s.p
         below = omega (arith, starts, below_mod (q - s.p + 1))
@@ -315,14 +316,14 @@ module _ (s : Shape) (w : WellFormed s) where
         ∙ whole_at not_rdp'' (s.p - 1 + d) d (s.p + 1) (s.p - 1) level (omega (arith, level)) (evenodd_second s w is-evenodd d))
         q (omega (arith, evenodd_n s w is-evenodd))
 
-    pub evenodd_row_walks : (q : ℕ) → q < s.p - 1 → (l : Line) → l.to ≡ callers_cell s (parity_cell s q) → l.count ≡ s.p → l.first ≡ q → l.step ≡ s.p - 1 → l.turn ≡ 0 → l.second ≡ 0 → l.extra ≡ 0 → Walks s q l
-    evenodd_row_walks q lq l to count first step turn second extra =
+    pub evenodd_row_walks : (q : ℕ) → q < s.p - 1 → (l : Line) → l.count ≡ s.p → l.first ≡ q → l.step ≡ s.p - 1 → l.turn ≡ 0 → l.second ≡ 0 → l.extra ≡ None → Covers s (own_cell s q) l
+    evenodd_row_walks q lq l count first step turn second extra =
         whole_walks not_rdp'' q (evenodd_row s.p q) (evenodd_row_is s w is-evenodd q lq) (row_takes s q (omega (arith, level))) l extra (λ k. k) (λ k. q)
         (λ k lk. (omega (arith, level), omega (arith, evenodd_columns s w is-evenodd), and_both (eq-eqb q q refl) (lt-ltb k s.p (omega arith))))
         (λ x y lx ly p. let ly' : y < s.p = ltb-true y s.p (and_right (eqb x q) (ltb y s.p) p) in (y, omega arith, sym (eqb-true x q (and_left (eqb x q) (ltb y s.p) p)), refl))
         (λ j k lj lk a b. b)
         (first ∙ (let z : q ≡ 0 * rows s + q = omega (arith, zero-mul (rows s)) in z)) (λ k lk e. absurd (omega arith)) (λ k lk e. (omega arith, omega (arith, level)))
-        to (omega (arith, low s w)) (omega (arith, high s w)) (omega (arith, high s w)) (omega arith)
+        (omega (arith, low s w)) (omega (arith, high s w)) (omega (arith, high s w)) (omega arith)
 
     -- the row in which diagonal d, or that of S, meets the column of cell k
     up : ℕ → ℕ → ℕ
@@ -382,34 +383,32 @@ module _ (s : Shape) (w : WellFormed s) where
           apart false true n = refl
           apart false false n = refl
 
-      pub evenodd_diagonal_walks : (q : ℕ) → s.p - 1 ≤ q → q - (s.p - 1) ≡ d → (l : Line) → l.to ≡ callers_cell s (parity_cell s q) → l.count ≡ s.p - 1 → l.first ≡ d → l.step ≡ s.p - 1 - 1 → l.turn ≡ d + 1
-          → l.second ≡ (d + 2) * (s.p - 1) + (s.p - 1 - 1) → l.extra ≡ 0 → Walks s q l
-      evenodd_diagonal_walks q far known l to count first step turn second extra = record {
-        to = to;
-        own = whole_covers not_rdp'' (own_cell s q) (λ x y. ltb y s.p && eqb ((x + y) % s.p) d) (own_is q far known) l extra (skip d) (up d)
-            (λ k lk. (
-              omega (arith, up_low k (omega arith), level),
-              omega (arith, below_p d k (omega arith), evenodd_columns s w is-evenodd),
-              and_both (lt-ltb (skip d k) s.p (below_p d k (omega arith))) (eq-eqb ((up d k + skip d k) % s.p) d (up_on k (omega arith))),
-            ))
-            (λ x y lx ly p.
-            let ly' : y < s.p = ltb-true y s.p (and_left (ltb y s.p) (eqb ((x + y) % s.p) d) p) in
-            let on : (x + y) % s.p ≡ d = eqb-true ((x + y) % s.p) d (and_right (ltb y s.p) (eqb ((x + y) % s.p) d) p) in
-            let found = meets d y (misses_up x y (omega (arith, level)) on) in
-            let lk : found.0 < s.p - 1 = ends found.0 found.1 found.3 ly' in
-            (found.0, omega arith, meets_up x y found.0 (omega (arith, level)) ly' on found.3 lk, found.3))
-            (λ j k lj lk a b. alone d j k b)
-            (first ∙ (let z : d ≡ 0 * rows s + d = omega (arith, zero-mul (rows s)) in z) ∙ sym (ap₂ (λ (x y : ℕ). x * rows s + y) (before d 0 (omega arith)) (up_before d 0 (omega arith) ∙ (let z : d - 0 ≡ d = omega arith in z))))
-            (λ k lk e. second ∙ ap₂ (λ (x y : ℕ). x * y + (s.p - 1 - 1)) (let z : d + 2 ≡ suc k + 1 = omega arith in z) level
-            ∙ sym (ap₂ (λ (x y : ℕ). x * rows s + y) (behind d (suc k) (omega arith)) (up_behind d (suc k) (omega arith) ∙ (let z : s.p - 1 + d - suc k ≡ s.p - 1 - 1 = omega arith in z))))
-            (λ k lk e. (
-              onward d k (λ z. e (omega arith)),
-              by_less (suc k) (d + 1)
-                  (λ a. omega (arith, up_before d (suc k) a, up_before d k (omega arith), level))
-                  (λ a. omega (arith, up_behind d (suc k) a, up_behind d k (omega arith), level)),
-            ))
-            (omega (arith, low s w)) (omega (arith, high s w)) (omega (arith, high s w)) (omega (arith, evenodd_second_small d ld));
-      }
+      pub evenodd_diagonal_walks : (q : ℕ) → s.p - 1 ≤ q → q - (s.p - 1) ≡ d → (l : Line) → l.count ≡ s.p - 1 → l.first ≡ d → l.step ≡ s.p - 1 - 1 → l.turn ≡ d + 1
+          → l.second ≡ (d + 2) * (s.p - 1) + (s.p - 1 - 1) → l.extra ≡ None → Covers s (own_cell s q) l
+      evenodd_diagonal_walks q far known l count first step turn second extra =
+          whole_covers not_rdp'' (own_cell s q) (λ x y. ltb y s.p && eqb ((x + y) % s.p) d) (own_is q far known) l extra (skip d) (up d)
+          (λ k lk. (
+            omega (arith, up_low k (omega arith), level),
+            omega (arith, below_p d k (omega arith), evenodd_columns s w is-evenodd),
+            and_both (lt-ltb (skip d k) s.p (below_p d k (omega arith))) (eq-eqb ((up d k + skip d k) % s.p) d (up_on k (omega arith))),
+          ))
+          (λ x y lx ly p.
+          let ly' : y < s.p = ltb-true y s.p (and_left (ltb y s.p) (eqb ((x + y) % s.p) d) p) in
+          let on : (x + y) % s.p ≡ d = eqb-true ((x + y) % s.p) d (and_right (ltb y s.p) (eqb ((x + y) % s.p) d) p) in
+          let found = meets d y (misses_up x y (omega (arith, level)) on) in
+          let lk : found.0 < s.p - 1 = ends found.0 found.1 found.3 ly' in
+          (found.0, omega arith, meets_up x y found.0 (omega (arith, level)) ly' on found.3 lk, found.3))
+          (λ j k lj lk a b. alone d j k b)
+          (first ∙ (let z : d ≡ 0 * rows s + d = omega (arith, zero-mul (rows s)) in z) ∙ sym (ap₂ (λ (x y : ℕ). x * rows s + y) (before d 0 (omega arith)) (up_before d 0 (omega arith) ∙ (let z : d - 0 ≡ d = omega arith in z))))
+          (λ k lk e. second ∙ ap₂ (λ (x y : ℕ). x * y + (s.p - 1 - 1)) (let z : d + 2 ≡ suc k + 1 = omega arith in z) level
+          ∙ sym (ap₂ (λ (x y : ℕ). x * rows s + y) (behind d (suc k) (omega arith)) (up_behind d (suc k) (omega arith) ∙ (let z : s.p - 1 + d - suc k ≡ s.p - 1 - 1 = omega arith in z))))
+          (λ k lk e. (
+            onward d k (λ z. e (omega arith)),
+            by_less (suc k) (d + 1)
+                (λ a. omega (arith, up_before d (suc k) a, up_before d k (omega arith), level))
+                (λ a. omega (arith, up_behind d (suc k) a, up_behind d k (omega arith), level)),
+          ))
+          (omega (arith, low s w)) (omega (arith, high s w)) (omega (arith, high s w)) (omega (arith, evenodd_second_small d ld))
         where
           ends : (k : ℕ) {y : ℕ} → k ≤ y → skip d k ≡ y → y < s.p → k < s.p - 1
           ends k ky e ly = by_less k (d + 1) (λ a. omega (arith, before d k a)) (λ a. omega (arith, behind d k a))
@@ -419,7 +418,7 @@ module _ (s : Shape) (w : WellFormed s) where
     unfolding shares_cell shares
     shared_is x y lx ly = rw (eq-eqb s.code 4 is-evenodd, row_is s w x y lx, column_is s w x y lx) refl
 
-    pub shared_covers : (l : Line) → l.count ≡ s.p - 1 → l.first ≡ s.p - 1 + (s.p - 1 - 1) → l.step ≡ s.p - 1 - 1 → l.turn ≡ 0 → l.second ≡ 0 → l.extra ≡ 0 → Covers s (shares_cell s) l
+    pub shared_covers : (l : Line) → l.count ≡ s.p - 1 → l.first ≡ s.p - 1 + (s.p - 1 - 1) → l.step ≡ s.p - 1 - 1 → l.turn ≡ 0 → l.second ≡ 0 → l.extra ≡ None → Covers s (shares_cell s) l
     shared_covers l count first step turn second extra =
         whole_covers not_rdp'' (shares_cell s) (evenodd_s s.p) shared_is l extra (λ k. k + 1) (λ k. s.p - 1 - 1 - k)
         (λ k lk. (

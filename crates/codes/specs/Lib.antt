@@ -1,5 +1,6 @@
 pub mod Equations
 pub mod Shape
+pub mod Kinds
 pub mod Geometry
 pub mod Encoded
 pub mod Lines

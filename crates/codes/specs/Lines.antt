@@ -1,8 +1,9 @@
 -- How the cells that an equation sums are found one after the other: those of them that exist, and apart from them those that several equations share.
-use Rattle.std.specs.Prelude.{◌≡◌, ◌⊎◌, List, Bool, true, false, cond, not, ◌&&◌, ℕ, zero, suc, ◌+◌, ◌*◌, ◌/◌, ◌%◌, ◌≤◌, ◌<◌, eqb, leb, ltb, length, get_or}
+use Rattle.std.specs.Prelude.{◌≡◌, ◌⊎◌, List, Bool, true, false, cond, not, ◌&&◌, ℕ, zero, suc, ◌+◌, ◌*◌, ◌/◌, ◌%◌, ◌≤◌, ◌<◌, eqb, leb, ltb, length, get_or, is_some, unwrap_or}
 use Rattle.xor.specs.Xor.{◌⊕◌, xors}
 use Rattle.codes.specs.declared.Shape.{Shape}
 use Rattle.codes.specs.declared.Line.{Line}
+use Rattle.codes.specs.declared.Walk.{Walk}
 use Rattle.codes.specs.declared.Sources.{Sources}
 use Rattle.codes.specs.Shape.{rows, cells, stripe_length}
 use Rattle.codes.specs.Geometry.{cell_there, callers_cell, place}
@@ -44,10 +45,10 @@ walked l (suc k) = cond (eqb (suc k) l.turn) l.second (walked l k + l.step)
 
 -- the cells of a line: those that it walks, and behind them the extra one, if there is one
 unfoldable pub line_count : Line → ℕ
-line_count l = cond (eqb l.extra 0) l.count (l.count + 1)
+line_count l = cond (is_some l.extra) (l.count + 1) l.count
 
 unfoldable pub line_cell : Line → ℕ → ℕ
-line_cell l k = cond (ltb k l.count) (walked l k) l.extra
+line_cell l k = cond (ltb k l.count) (walked l k) (unwrap_or l.extra 0)
 
 -- the line is short, and its cells stay inside a stripe
 pub record Short (l : Line) : Type 0 where
@@ -55,7 +56,7 @@ pub record Short (l : Line) : Type 0 where
   pub first : l.first ≤ 1024
   pub step : l.step ≤ 1024
   pub second : l.second ≤ 1024
-  pub extra : l.extra ≤ 1024
+  pub extra : unwrap_or l.extra 0 ≤ 1024
   pub at : (k : ℕ) → k < l.count → walked l k ≤ 1024
 
 -- the line goes through the cells that pass a test and exist, once through each
@@ -68,10 +69,10 @@ pub record Covers (s : Shape) (test : ℕ → Bool) (l : Line) : Type 0 where
   pub passes : (k : ℕ) → k < line_count l → test (cell k) ≡ true
   pub sum : (f : ℕ → ℕ) → ((c : ℕ) → cell_there s c ≡ false → f c ≡ 0) → sum_where s test f ≡ xors (line_count l) (λ k. f (cell k))
 
--- the line has the parity cell of equation q, and goes through the cells that it sums by itself
-pub record Walks (s : Shape) (q : ℕ) (l : Line) : Type 0 where
-  pub to : l.to ≡ callers_cell s (parity_cell s q)
-  pub own : Covers s (own_cell s q) l
+-- the parity cell is that of equation q, and the line goes through the cells that it sums by itself
+pub record Walks (s : Shape) (q : ℕ) (w : Walk) : Type 0 where
+  pub to : w.to ≡ callers_cell s (parity_cell s q)
+  pub own : Covers s (own_cell s q) w.own
 
 -- the places begin with those of the cells that a line walks
 pub record Placed (s : Shape) (l : Line) (places : List ℕ) : Type 0 where

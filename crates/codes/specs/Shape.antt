@@ -1,8 +1,6 @@
 -- The shape of a stripe: document 01, "Numbers and the lent stripe", for RDP with fewer data columns document 02, request 01, and the fourth code, request 03.
-use Rattle.std.specs.Prelude.{◌≡◌, Bool, true, false, not, ◌||◌, ℕ, ◌+◌, ◌-◌, ◌*◌, ◌≤◌, eqb, leb}
+use Rattle.std.specs.Prelude.{◌≡◌, Bool, true, false, not, ◌||◌, ℕ, ◌+◌, ◌-◌, ◌*◌, ◌≤◌, eqb, leb, Option, None, Some}
 use Rattle.codes.specs.declared.Shape.{Shape}
-use Rattle.codes.specs.declared.Width.{Width}
-use Rattle.codes.specs.declared.Width.TheVariants.{Full, Data}
 use Rattle.codes.specs.Equations.{code_of}
 
 -- codes are numbered from 1 to this
@@ -38,18 +36,18 @@ unfoldable pub cell_number : Shape → ℕ → ℕ → ℕ
 cell_number s row column = column * rows s + row
 
 -- how many of the p-1 data columns don't exist: none where their number is not given, and all but m where m is
-abbrev pub without : ℕ → Width → ℕ
-without p Full = 0
-without p (Data m) = p - 1 - m
+abbrev pub without : ℕ → Option ℕ → ℕ
+without p None = 0
+without p (Some m) = p - 1 - m
 
 -- of a stripe
 unfoldable pub missing : Shape → ℕ
 missing s = without s.p s.width
 
 -- whether a number m of data columns is given that can't be: m outside 1 to p-1, or given for another code than RDP
-abbrev pub wrong_data : ℕ → ℕ → Width → Bool
-wrong_data code p Full = false
-wrong_data code p (Data m) = not (eqb code 1) || (eqb m 0 || leb p m)
+abbrev pub wrong_data : ℕ → ℕ → Option ℕ → Bool
+wrong_data code p None = false
+wrong_data code p (Some m) = not (eqb code 1) || (eqb m 0 || leb p m)
 
 -- columns that exist, each on a disk of its own
 unfoldable pub disks : Shape → ℕ

@@ -1,10 +1,11 @@
 // EVENODD: rows, and diagonals that share S, the sum of the one diagonal that has no parity cell.
+#![tactic(auto, using(crate::proofs::Bounds::evenodd_bounds))]
+
 ghost use Rattle.std.specs.Prelude.{◌≡◌, ◌-◌, ◌<◌};
 ghost use Rattle.codes.specs.Shape.{rows, columns, equations, cell_number, WellFormed};
 ghost use Rattle.codes.specs.Geometry.{callers_cell};
 ghost use Rattle.codes.specs.Encoded.{parity_cell, is_parity};
-ghost use Rattle.codes.specs.Lines.{shares_cell, Covers, Walks};
-ghost use Rattle.codes.specs.Depends.{DataCell, DependOn};
+ghost use Rattle.codes.specs.Lines.{shares_cell, own_cell, Covers};
 ghost use Rattle.codes.specs.Holders.{HeldBy, NamedFrom};
 
 use crate::{Line, Shape};
@@ -21,30 +22,28 @@ pub fn parity(shape: Shape, q: usize) -> usize
 // column 0 to row 0, then from the last row on.
 pub fn line(shape: Shape, q: usize) -> Line
     requires { WellFormed shape × (shape.code ≡ 4) × (q < equations shape) }
-    ensures { Walks shape q result }
+    ensures { Covers shape (own_cell shape q) result }
 {
     let p = shape.p;
     let n = p - 1;
     if q < n {
         return Line {
-            to: p * n + q,
             count: p,
             first: q,
             step: n,
             turn: 0,
             second: 0,
-            extra: 0,
+            extra: None,
         };
     }
     let d = q - n;
     Line {
-        to: p * n + q,
         count: n,
         first: d,
         step: n - 1,
         turn: d + 1,
         second: (d + 2) * n + (n - 1),
-        extra: 0,
+        extra: None,
     }
 }
 
@@ -55,13 +54,12 @@ pub fn shared(shape: Shape) -> Line
 {
     let n = shape.p - 1;
     Line {
-        to: 0,
         count: n,
         first: n + (n - 1),
         step: n - 1,
         turn: 0,
         second: 0,
-        extra: 0,
+        extra: None,
     }
 }
 
@@ -101,12 +99,4 @@ pub fn holders(shape: Shape, row: usize, column: usize) -> u64
         return with_diagonals(shape, row);
     }
     crate::pair(shape, row, n + crate::turned(row, column, p))
-}
-
-// The equations whose parity cells depend on a data cell: those that hold it.
-pub fn dependents(shape: Shape, row: usize, column: usize) -> u64
-    requires { WellFormed shape × (shape.code ≡ 4) × DataCell shape row column }
-    ensures { DependOn shape (cell_number shape row column) result }
-{
-    holders(shape, row, column)
 }

@@ -1,10 +1,11 @@
 // H-Code: rows and anti-diagonals, whose parity cells stand in the last column and beside the diagonal.
+#![tactic(auto, using(crate::proofs::Bounds::hcode_bounds))]
+
 ghost use Rattle.std.specs.Prelude.{◌≡◌, ◌<◌};
 ghost use Rattle.codes.specs.Shape.{rows, columns, equations, cell_number, WellFormed};
 ghost use Rattle.codes.specs.Geometry.{callers_cell};
 ghost use Rattle.codes.specs.Encoded.{parity_cell, is_parity};
-ghost use Rattle.codes.specs.Lines.{Walks};
-ghost use Rattle.codes.specs.Depends.{DataCell, DependOn};
+ghost use Rattle.codes.specs.Lines.{own_cell, Covers};
 ghost use Rattle.codes.specs.Holders.{HeldBy};
 
 use crate::{Line, Shape};
@@ -25,29 +26,27 @@ pub fn parity(shape: Shape, q: usize) -> usize
 // The line of equation q: rows first, then the anti-diagonals. Both go through the first p columns but r + 1, one after the other.
 pub fn line(shape: Shape, q: usize) -> Line
     requires { WellFormed shape × (shape.code ≡ 2) × (q < equations shape) }
-    ensures { Walks shape q result }
+    ensures { Covers shape (own_cell shape q) result }
 {
     let n = shape.p - 1;
     if q < n {
         return Line {
-            to: shape.p * n + q,
             count: n,
             first: q,
             step: n,
             turn: q + 1,
             second: (q + 2) * n + q,
-            extra: 0,
+            extra: None,
         };
     }
     let r = q - n;
     Line {
-        to: (r + 1) * n + r,
         count: n,
         first: n - 1 - r,
         step: n + 1,
         turn: r + 1,
         second: (r + 2) * n,
-        extra: 0,
+        extra: None,
     }
 }
 
@@ -56,10 +55,7 @@ pub fn is_parity(shape: Shape, row: usize, column: usize) -> bool
     requires { WellFormed shape × (shape.code ≡ 2) × (row < rows shape) × (column < columns shape) }
     ensures { result ≡ is_parity shape (cell_number shape row column) }
 {
-    if column == shape.p {
-        return true;
-    }
-    column == row + 1
+    column == shape.p || column == row + 1
 }
 
 // The equations that hold a cell: a data cell's row and its anti-diagonal, or the one whose parity cell it is.
@@ -76,12 +72,4 @@ pub fn holders(shape: Shape, row: usize, column: usize) -> u64
         return crate::named(shape, n + row, n + row);
     }
     crate::named(shape, row, n + crate::turned(column, p - 2 - row, p))
-}
-
-// The equations whose parity cells depend on a data cell: those that hold it.
-pub fn dependents(shape: Shape, row: usize, column: usize) -> u64
-    requires { WellFormed shape × (shape.code ≡ 2) × DataCell shape row column }
-    ensures { DependOn shape (cell_number shape row column) result }
-{
-    holders(shape, row, column)
 }

@@ -4,18 +4,15 @@ ghost use Rattle.std.specs.Prelude.{◌≡◌, true, ◌<◌};
 ghost use Rattle.codes.specs.Shape.{rows, columns, cells, disks, existing, cell_number, WellFormed};
 ghost use Rattle.codes.specs.Geometry.{gap, is_there, cell_there, column_of, lies_at, cell_at, cell_of, place};
 
-use crate::{Shape, Width};
+use crate::Shape;
 
 // The first column that need not exist: of RDP how many data columns there are.
+#[tactic(auto, using(crate::proofs::Shapes::low, crate::proofs::Shapes::data_is))]
 pub fn data_columns(shape: Shape) -> usize
     requires { WellFormed shape }
     ensures { result ≡ gap shape }
 {
-    let width = shape.width;
-    match width {
-        Width::Full => shape.p - 1,
-        Width::Data(m) => m,
-    }
+    shape.width.unwrap_or(shape.p - 1)
 }
 
 // The column, as the equations number it, that lies at place d.
@@ -23,8 +20,7 @@ pub fn column_of(shape: Shape, d: usize) -> usize
     requires { WellFormed shape × (d < disks shape) }
     ensures { result ≡ column_of shape d }
 {
-    let width = shape.width;
-    let Width::Data(m) = width else {
+    let Some(m) = shape.width else {
         return d;
     };
     if d < m {
@@ -38,8 +34,7 @@ pub fn lies_at(shape: Shape, j: usize) -> usize
     requires { WellFormed shape × (j < columns shape) × (is_there shape j ≡ true) }
     ensures { result ≡ lies_at shape j }
 {
-    let width = shape.width;
-    let Width::Data(m) = width else {
+    let Some(m) = shape.width else {
         return j;
     };
     if j < m {
@@ -49,6 +44,7 @@ pub fn lies_at(shape: Shape, j: usize) -> usize
 }
 
 // The equations' number of the cell that a caller calls c.
+#[tactic(auto, using(crate::proofs::Bounds::seen))]
 pub fn cell_of(shape: Shape, c: usize) -> usize
     requires { WellFormed shape × (c < existing shape) }
     ensures { result ≡ cell_of shape c }
@@ -58,6 +54,7 @@ pub fn cell_of(shape: Shape, c: usize) -> usize
 }
 
 // Where column j starts in the stripe's bytes.
+#[tactic(auto, using(crate::proofs::Geometry::column_place_is, crate::proofs::Geometry::column_small))]
 pub fn column_place(shape: Shape, j: usize) -> usize
     requires { WellFormed shape × (j < columns shape) × (is_there shape j ≡ true) }
     ensures { result ≡ place shape (cell_number shape 0 j) }
@@ -82,6 +79,7 @@ pub fn lent_place(shape: Shape, row: usize, d: usize) -> usize
 }
 
 // Where cell c, as the equations number it, starts in the stripe's bytes.
+#[tactic(auto, using(crate::proofs::Bounds::seen))]
 pub fn place_of(shape: Shape, c: usize) -> usize
     requires { WellFormed shape × (c < cells shape) × (cell_there shape c ≡ true) }
     ensures { result ≡ place shape c }

@@ -1,9 +1,11 @@
 // RDP: rows of p - 1 data cells and their parity cell, and diagonals, which hold the row parity column too.
-ghost use Rattle.std.specs.Prelude.{◌≡◌, cond, eqb, ltb, ◌+◌, ◌-◌, ◌*◌, ◌≤◌, ◌<◌};
+#![tactic(auto, using(crate::proofs::Bounds::rdp_bounds))]
+
+ghost use Rattle.std.specs.Prelude.{◌≡◌, cond, eqb, ltb, ◌+◌, ◌-◌, ◌*◌, ◌≤◌, ◌<◌, None, Some};
 ghost use Rattle.codes.specs.Shape.{rows, columns, equations, cell_number, WellFormed};
 ghost use Rattle.codes.specs.Geometry.{callers_cell};
 ghost use Rattle.codes.specs.Encoded.{parity_cell, is_parity};
-ghost use Rattle.codes.specs.Lines.{Walks};
+ghost use Rattle.codes.specs.Lines.{own_cell, Covers};
 ghost use Rattle.codes.specs.Depends.{DataCell, DependOn};
 ghost use Rattle.codes.specs.Holders.{HeldBy};
 
@@ -22,45 +24,40 @@ fn met(m: usize, d: usize) -> usize
     requires { (1 ≤ m) × (d < 32) }
     ensures { result ≡ cond (ltb (d + 1) m) (m - 1) m }
 {
-    if d + 1 < m {
-        return m - 1;
-    }
-    m
+    if d + 1 < m { m - 1 } else { m }
 }
 
-// The cell of the row parity column on diagonal d, where n rows and m data columns lie before it; 0 where it would be in row p - 1.
-fn corner(m: usize, n: usize, d: usize) -> usize
+// The cell of the row parity column on diagonal d, where n rows and m data columns lie before it; none where it would be in row p - 1.
+fn corner(m: usize, n: usize, d: usize) -> Option<usize>
     requires { (m < 32) × (n < 32) × (d < 32) }
-    ensures { result ≡ cond (eqb (d + 1) n) 0 (m * n + (d + 1)) }
+    ensures { result ≡ cond (eqb (d + 1) n) None (Some (m * n + (d + 1))) }
 {
     if d + 1 == n {
-        return 0;
+        return None;
     }
-    m * n + (d + 1)
+    Some(m * n + (d + 1))
 }
 
 // The line of equation q. A row goes through the data columns. A diagonal goes up the rows, column after column, from row d of column 0 to row 0,
 // then from the last row on; and it holds a cell of the row parity column.
 pub fn line(shape: Shape, q: usize) -> Line
     requires { WellFormed shape × (shape.code ≡ 1) × (q < equations shape) }
-    ensures { Walks shape q result }
+    ensures { Covers shape (own_cell shape q) result }
 {
     let n = shape.p - 1;
     let m = crate::data_columns(shape);
     if q < n {
         return Line {
-            to: m * n + q,
             count: m,
             first: q,
             step: n,
             turn: 0,
             second: 0,
-            extra: 0,
+            extra: None,
         };
     }
     let d = q - n;
     Line {
-        to: m * n + q,
         count: met(m, d),
         first: d,
         step: n - 1,
@@ -75,8 +72,7 @@ pub fn is_parity(shape: Shape, row: usize, column: usize) -> bool
     requires { WellFormed shape × (shape.code ≡ 1) × (row < rows shape) × (column < columns shape) }
     ensures { result ≡ is_parity shape (cell_number shape row column) }
 {
-    let data = shape.p - 1;
-    data <= column
+    shape.p - 1 <= column
 }
 
 // The equations that hold a cell: its row and its diagonal; in the last column the diagonal whose parity cell it is.

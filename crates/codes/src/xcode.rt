@@ -1,10 +1,11 @@
 // X-Code: two families of lines of slopes 1 and -1, whose parity cells stand in the last two rows.
+#![tactic(auto, using(crate::proofs::Bounds::xcode_bounds))]
+
 ghost use Rattle.std.specs.Prelude.{◌≡◌, ◌-◌, ◌<◌};
 ghost use Rattle.codes.specs.Shape.{rows, columns, equations, cell_number, WellFormed};
 ghost use Rattle.codes.specs.Geometry.{callers_cell};
 ghost use Rattle.codes.specs.Encoded.{parity_cell, is_parity};
-ghost use Rattle.codes.specs.Lines.{Walks};
-ghost use Rattle.codes.specs.Depends.{DataCell, DependOn};
+ghost use Rattle.codes.specs.Lines.{own_cell, Covers};
 ghost use Rattle.codes.specs.Holders.{HeldBy};
 
 use crate::{Line, Shape};
@@ -21,44 +22,32 @@ pub fn parity(shape: Shape, q: usize) -> usize
     (q - p) * p + (p - 1)
 }
 
-// The row of column 0 in which the second family goes on that starts in a column; 0 where it has ended before.
-fn past(column: usize) -> usize
-    ensures { result ≡ column - 3 }
-{
-    if column < 3 {
-        return 0;
-    }
-    column - 3
-}
-
 // The line of equation q: the first family goes down the rows from row 0 on, the second up from row p - 3 on, both one column on, round after
-// the last.
+// the last. A line of the second that starts in column 0, 1 or 2 has ended by then.
 pub fn line(shape: Shape, q: usize) -> Line
     requires { WellFormed shape × (shape.code ≡ 3) × (q < equations shape) }
-    ensures { Walks shape q result }
+    ensures { Covers shape (own_cell shape q) result }
 {
     let p = shape.p;
     if q < p {
         let column = crate::turned(q, 2, p);
         return Line {
-            to: q * p + (p - 2),
             count: p - 2,
             first: column * p,
             step: p + 1,
             turn: p - column,
             second: p - column,
-            extra: 0,
+            extra: None,
         };
     }
     let column = crate::turned(q - p, 1, p);
     Line {
-        to: (q - p) * p + (p - 1),
         count: p - 2,
         first: column * p + (p - 3),
         step: p - 1,
         turn: p - column,
-        second: past(column),
-        extra: 0,
+        second: column.saturating_sub(3),
+        extra: None,
     }
 }
 
@@ -87,12 +76,4 @@ pub fn holders(shape: Shape, row: usize, column: usize) -> u64
         crate::turned(column, p - 2 - row, p),
         p + crate::turned(column, row + 2, p),
     )
-}
-
-// The equations whose parity cells depend on a data cell: those that hold it.
-pub fn dependents(shape: Shape, row: usize, column: usize) -> u64
-    requires { WellFormed shape × (shape.code ≡ 3) × DataCell shape row column }
-    ensures { DependOn shape (cell_number shape row column) result }
-{
-    holders(shape, row, column)
 }

@@ -4,18 +4,17 @@ use mathlib.Core.Logic.{◌≢◌}
 use mathlib.Core.List.{List}
 use mathlib.Core.Bool.{Bool, true, false, cond, not, ◌&&◌}
 use Prim.Native.Nat.{ℕ, ◌≤◌, ◌<◌}
-use native.Mathlib.Nat.{mul-one}
 use native.Mathlib.Omega.{arith}
 use lib.Dec.{eqb, ltb}
 use lib.ListN.{length, get_or}
 use borrow.Author.Tests.{eq-eqb, ne_eqb, lt-ltb, ltb-true, not-true}
 use Rattle.xor.specs.Xor.{◌⊕◌, xors}
+use Rattle.xor.specs.Sets.{count}
 use Rattle.xor.proofs.Cases.{by_test, by_less, clash, and_left, and_right, and_both, not_passed}
 use Rattle.xor.proofs.Algebra.{⊕_zero}
 use Rattle.xor.proofs.Sums.{xors_zero, xors_one}
-use Rattle.solve.specs.declared.Eliminated.{Eliminated}
-use Rattle.solve.specs.declared.Eliminated.TheVariants.{Passed, Stopped}
-use Rattle.bits.specs.Bit.{bit, Members}
+use Rattle.std.specs.Prelude.{Option, Some, None}
+use Rattle.bits.specs.Bit.{bit, Within}
 use Rattle.elimination.specs.Method.{State}
 use Rattle.elimination.specs.Solution.{over, Solution}
 use Rattle.elimination.specs.Verdict as verdict
@@ -28,10 +27,9 @@ use Rattle.codes.specs.Encoded.{total, Solves}
 use Rattle.codes.specs.Holders.{holds}
 use Rattle.codes.proofs.Shapes.{small_equations}
 use Rattle.codes.proofs.Solutions.{total_zero, zero_total, total_holds, solves_same}
-use Rattle.decide.specs.declared.Decided.{Decided}
-use Rattle.decide.specs.declared.Decided.TheVariants.{Solved, Open}
 use Rattle.decide.specs.Survivors.{Undetermined}
-use Rattle.decide.specs.Solver.{summed, mended, lost_in, OnlyThere, Listed, Gathered, Rows, Solver, Decision}
+use Rattle.decide.specs.declared.Lost.{Lost}
+use Rattle.decide.specs.Solver.{summed, mended, lost_in, OnlyThere, cells_of, Gathered, Checks, Rows, Solver}
 use Rattle.decide.proofs.Stripes.{two_solutions}
 
 -- ---- solutions of a code's equations, as tests on cells
@@ -70,23 +68,18 @@ module _ (s : Shape) (w : WellFormed s) (lost : ℕ → Bool) (u : ℕ) (list : 
   chosen_below k l = subst (λ (x : ℕ). x < E) (sym (masked.choice k l)) (determined.below (get_or list k 0) (lists.inside k l) (lists.is_lost k l))
 
   -- the sets that give the lost cells, and those that check the survivors
-  module _ (sets : List ℕ) (gives : Gathered chosen sources u sets) (v : ℕ) (free checks : List ℕ) (members : Members unused 1 v free) (tests : Gathered free sources v checks)
-      (few : u ≤ 64) (long : length list ≡ 64) where
+  module _ (sets : List ℕ) (gives : Gathered chosen sources u sets) (checks : List ℕ) (tests : Checks unused sources checks) (few : u ≤ 64) where
     set_is : (f : ℕ → ℕ) (k : ℕ) → k < u → summed s (get_or sets k 0) f ≡ verdict.summed E (cells s) (holds s) state f (state.chosen (get_or list k 0))
     set_is f k l =
         ap (λ (m : ℕ). summed s m f) (gives.set k l) ∙ summed_is f (get_or chosen k 0) (chosen_below k l)
         ∙ ap (verdict.summed E (cells s) (holds s) state f) (masked.choice k l)
 
     -- check j is that of an unused equation, and each has one
-    check_of : (j : ℕ) → j < v → (q : ℕ) × (q < E) × (state.used q ≡ false) × (get_or checks j 0 ≡ get_or sources q 0)
-    check_of j l =
-        let found = members.member j l in
-        (found.0, unused_below found.0 found.2, unused_is found.0 found.2, tests.set j l ∙ ap (λ (i : ℕ). get_or sources i 0) (found.3 ∙ mul-one found.0))
+    check_of : (j : ℕ) → j < length checks → (q : ℕ) × (q < E) × (state.used q ≡ false) × (get_or checks j 0 ≡ get_or sources q 0)
+    check_of j l = let found = tests.made j l in (found.0, unused_below found.0 found.1, unused_is found.0 found.1, found.2)
 
-    of_check : (q : ℕ) → q < E → state.used q ≡ false → (j : ℕ) × (j < v) × (get_or checks j 0 ≡ get_or sources q 0)
-    of_check q l e =
-        let found = members.all q (omega (arith, small_equations s w)) (masked.free.bits q ∙ and_both (lt-ltb q E l) (ap not e)) in
-        (found.0, found.1, tests.set found.0 found.1 ∙ ap (λ (i : ℕ). get_or sources i 0) (found.2 ∙ mul-one q))
+    of_check : (q : ℕ) → q < E → state.used q ≡ false → (j : ℕ) × (j < length checks) × (get_or checks j 0 ≡ get_or sources q 0)
+    of_check q l e = tests.all q (omega (arith, small_equations s w)) (masked.free.bits q ∙ and_both (lt-ltb q E l) (ap not e))
 
     -- the mended values are the rebuilt ones
     mended_is : (f : ℕ → ℕ) (c : ℕ) → c < cells s → mended s list sets u f c ≡ verdict.rebuilt E (cells s) (holds s) lost state f c
@@ -109,15 +102,13 @@ module _ (s : Shape) (w : WellFormed s) (lost : ℕ → Bool) (u : ℕ) (list : 
             ∙ ap (λ (b : Bool). cond b (summed s (get_or sets k 0) f) 0) (eq-eqb (get_or list k 0) c q) ∙ set_is f k l ∙ ap (λ (d : ℕ). verdict.summed E (cells s) (holds s) state f (state.chosen d)) q)
             ∙ sym (determined.value_by_sums f c lc e) ∙ sym (rw e refl)
 
-    solver : Solver s lost u list sets v checks
+    solver : Solver s lost u list sets (length checks) checks
     solver = record {
       listed = lists;
-      long_cells = long;
-      gives = record { long = gives.long; few = few; below = λ j l r p. source_below (get_or chosen j 0) (chosen_below j l) r (ap (bit r) (sym (gives.set j l)) ∙ p) };
+      gives = record { few = few; within = λ j l. record { below = λ r p. source_below (get_or chosen j 0) (chosen_below j l) r (ap (bit r) (sym (gives.set j l)) ∙ p) } };
       tests = record {
-        long = tests.long;
-        few = members.few;
-        below = λ j l r p. let found = check_of j l in source_below found.0 found.1 r (ap (bit r) (sym found.3) ∙ p);
+        few = tests.few;
+        within = λ j l. record { below = λ r p. let found = check_of j l in source_below found.0 found.1 r (ap (bit r) (sym found.3) ∙ p) };
       };
       needed = λ f g h agree j l.
           let found = check_of j l in
@@ -141,53 +132,57 @@ undetermined s w lost there c h =
 
 -- ---- what the program decides
 
-module _ (s : Shape) (w : WellFormed s) (map : List Bool) (there : OnlyThere s (lost_in map)) (u : ℕ) (list : List ℕ) (listed : Listed s map u list) where
+module _ (s : Shape) (w : WellFormed s) (map : List Bool) (there : OnlyThere s (lost_in map)) where
   -- more lost cells than equations
-  pub decision_more : equations s < u → Undetermined s (lost_in map)
-  decision_more more = let found = too_many (equations s) (cells s) (holds s) (lost_in map) (listed.more more) in undetermined s w (lost_in map) there found.0 found.1
+  pub decision_more : equations s < count (cells s) (lost_in map) → Undetermined s (lost_in map)
+  decision_more more = let found = too_many (equations s) (cells s) (holds s) (lost_in map) more in undetermined s w (lost_in map) there found.0 found.1
 
-  module _ (few : u ≤ equations s) (rows : List ℕ) (held : Rows s u list rows) (sources chosen : List ℕ) (answer : Eliminated)
-      (n : ℕ) (is : n ≡ equations s) (eliminates : Eliminates n u rows sources chosen answer) where
+  module _ (u : ℕ) (list : List ℕ) (lists : Lists (cells s) (lost_in map) u (λ k. get_or list k 0)) (rows : List ℕ) (held : Rows s u list rows)
+      (n v : ℕ) (sources chosen : List ℕ) (answer : Option ℕ) (n_is : n ≡ equations s) (v_is : v ≡ u) (eliminates : Eliminates n v rows sources chosen answer) where
     abbrev problem : Problem (equations s) u rows
     problem = record {
       n = cells s;
       equation = holds s;
       lost = lost_in map;
       cell = λ k. get_or list k 0;
-      lists = listed.lists few;
+      lists = lists;
       rows = held.bits;
     }
 
     -- the answer, as the code has matched it
-    said : (a : Eliminated) → answer ≡ a → Answers (equations s) u rows sources chosen problem a
-    said a e = subst (Answers (equations s) u rows sources chosen problem) e ((subst (λ (k : ℕ). Eliminates k u rows sources chosen answer) is eliminates).answers problem)
+    said : (a : Option ℕ) → answer ≡ a → Answers (equations s) u rows sources chosen problem a
+    said a e = subst (Answers (equations s) u rows sources chosen problem) e
+        ((subst (λ (k : ℕ). Eliminates k u rows sources chosen answer) n_is (subst (λ (k : ℕ). Eliminates n k rows sources chosen answer) v_is eliminates)).answers problem)
 
     -- the method stopped
-    pub decision_open : answer ≡ Stopped → Undetermined s (lost_in map)
+    pub decision_open : answer ≡ None → Undetermined s (lost_in map)
     decision_open e =
-        let found = said Stopped e in
+        let found = said None e in
         undetermined s w (lost_in map) there found.0 (stopped_at (equations s) (cells s) (holds s) (lost_in map) found.0 found.1 found.2)
 
     -- it passed
-    module _ (unused : ℕ) (e : answer ≡ Passed unused) where
-      pub chosen_small : (k : ℕ) → k < u → get_or chosen k 0 < 64
-      chosen_small k l =
-          let found = said (Passed unused) e in
+    module _ (unused : ℕ) (e : answer ≡ Some unused) where
+      pub chosen_below_all : (k : ℕ) → k < u → get_or chosen k 0 < equations s
+      chosen_below_all k l =
+          let found = said (Some unused) e in
           let determined = passed_all (equations s) (cells s) (holds s) (lost_in map) found.0 found.1 in
-          omega (arith, found.2.choice k l, determined.below (get_or list k 0) ((listed.lists few).inside k l) ((listed.lists few).is_lost k l), small_equations s w)
+          omega (arith, found.2.choice k l, determined.below (get_or list k 0) (lists.inside k l) (lists.is_lost k l))
 
-      pub decision_solved : (sets : List ℕ) → Gathered chosen sources u sets → (v : ℕ) (free checks : List ℕ) → Members unused 1 v free → Gathered free sources v checks
-          → Solver s (lost_in map) u list sets v checks
-      decision_solved sets gives v free checks members tests =
-          let found = said (Passed unused) e in
-          solver s w (lost_in map) u list (listed.lists few) found.0 (passed_all (equations s) (cells s) (holds s) (lost_in map) found.0 found.1) sources chosen unused found.2
-          sets gives v free checks members tests (omega (arith, small_equations s w)) listed.long
+      pub within_unused : Within (equations s) unused
+      within_unused =
+          let found = said (Some unused) e in
+          record { below = unused_below s w (lost_in map) u list lists found.0 (passed_all (equations s) (cells s) (holds s) (lost_in map) found.0 found.1) sources chosen unused found.2 }
 
--- ---- a decision, as the code has matched it
+      pub decision_solved : u ≤ equations s → (m : ℕ) (sets : List ℕ) → m ≡ u → Gathered chosen sources m sets → (checks : List ℕ) → Checks unused sources checks
+          → Solver s (lost_in map) u list sets (length checks) checks
+      decision_solved few m sets same gives checks tests =
+          let found = said (Some unused) e in
+          solver s w (lost_in map) u list lists found.0 (passed_all (equations s) (cells s) (holds s) (lost_in map) found.0 found.1) sources chosen unused found.2
+          sets (subst (λ (k : ℕ). Gathered chosen sources k sets) same gives) checks tests (omega (arith, small_equations s w))
 
-module _ (s : Shape) (lost : ℕ → Bool) (list sets checks : List ℕ) (d : Decided) (h : Decision s lost list sets checks d) where
-  pub is_solved : (u v : ℕ) → d ≡ Solved u v → Solver s lost u list sets v checks
-  is_solved u v e = subst (Decision s lost list sets checks) e h
-
-  pub is_open : d ≡ Open → Undetermined s lost
-  is_open e = subst (Decision s lost list sets checks) e h
+-- the cells that have been given their sets
+pub solver_given : (s : Shape) (lost : ℕ → Bool) (old new : List Lost) (sets checks : List ℕ) → cells_of new ≡ cells_of old → length new ≡ length old
+    → Solver s lost (length old) (cells_of old) sets (length checks) checks → Solver s lost (length new) (cells_of new) sets (length checks) checks
+solver_given s lost old new sets checks same long h =
+    subst (λ (u : ℕ). Solver s lost u (cells_of new) sets (length checks) checks) (sym long)
+    (subst (λ (list : List ℕ). Solver s lost (length old) list sets (length checks) checks) (sym same) h)

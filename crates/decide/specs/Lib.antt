@@ -1,2 +1,3 @@
 pub mod Survivors
 pub mod Solver
+pub mod Deciding

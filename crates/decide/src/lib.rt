@@ -1,37 +1,43 @@
 // Whether the survivors determine the lost cells, and how these are then found.
 #![tactic(auto)]
 
-ghost use Rattle.std.specs.Prelude.{◌≡◌, ℕ, ◌≤◌, ◌<◌, length, get_or};
-ghost use Rattle.codes.specs.Shape.{columns, cells, existing, WellFormed};
+ghost use Rattle.std.specs.Prelude.{◌≡◌, ℕ, ◌≤◌, ◌<◌, length, get_or, MatchOption};
+ghost use Rattle.xor.specs.Sets.{count};
+ghost use Rattle.bits.specs.Bit.{Within};
+ghost use Rattle.codes.specs.Shape.{columns, cells, equations, existing, WellFormed};
 ghost use Rattle.codes.specs.Agree.{in_columns};
 ghost use Rattle.decide.specs.Survivors.{named};
-ghost use Rattle.decide.specs.Solver.{lost_in, OnlyThere, Listed, Rows, Gathered, Decision};
+ghost use Rattle.decide.specs.Solver.{lost_in, OnlyThere, cells_of, sets_of, Listed, Rows, Gathered, Checks};
+ghost use Rattle.decide.specs.Deciding.{Decision};
 
 use codes::Shape;
-use solve::Eliminated;
+
+mod way;
+
+pub use way::Way;
 
 // Room in a map of lost cells for all cells that a stripe may have.
 pub const MAP: usize = 990;
 
-// What was decided of a set of lost cells: the survivors determine them, and this is how many there are and how many checks the survivors have to
-// pass; or they leave them open.
+// A lost cell, and the set of the equations that gives it.
 #[derive(Clone, Copy)]
-pub enum Decided {
-    Solved { lost: usize, checks: usize },
-    Open,
+pub struct Lost {
+    pub cell: usize,
+    pub set: u64,
 }
 
-// The map of the cells that a caller's list names.
+// No lost cell: what fills the room for them.
+pub const NO_CELL: Lost = Lost { cell: 0, set: 0 };
+
+// The map of the cells that a caller's list names. The project's rules name this form here.
 pub fn mark_cells(shape: Shape, lost: &[usize]) -> [bool; MAP]
     requires { WellFormed shape × ((k : ℕ) → k < length lost.now → get_or lost.now k 0 < existing shape) }
     ensures { (c : ℕ) → lost_in result c ≡ named shape lost.now c }
 {
     let mut map = [false; MAP];
-    let mut k = 0;
-    while k < lost.len() {
-        let c = codes::cell_of(shape, lost[k]);
+    for number in lost {
+        let c = codes::cell_of(shape, *number);
         map[c] = true;
-        k += 1;
     }
     map
 }
@@ -43,103 +49,105 @@ pub fn mark_columns(shape: Shape, a: usize, b: usize) -> [bool; MAP]
 {
     let n = codes::row_count(shape);
     let mut map = [false; MAP];
-    let mut i = 0;
-    while i < n {
+    for i in 0..n {
         map[a * n + i] = true;
         map[b * n + i] = true;
-        i += 1;
     }
     map
 }
 
-// Lists the lost cells by rising number. Answers how many there are, or one more than there are equations where there are more than these.
-fn list_lost(shape: Shape, map: [bool; MAP], listed: &mut [usize; bits::ROOM]) -> usize
-    requires { WellFormed shape × (length listed.old ≡ 64) }
-    ensures { Listed shape map result listed.new }
+// Lists the lost cells by rising number, unless there are more of them than equations. Room for them is lent as an array: no heap, by the
+// project's rules.
+fn list_lost<'a>(
+    shape: Shape,
+    map: [bool; MAP],
+    lost: &'a mut [Lost; bits::ROOM],
+) -> Option<&'a mut [Lost]>
+    requires { WellFormed shape }
+    ensures { MatchOption result (equations shape < count (cells shape) (lost_in map)) (λ list. Listed shape map list.now) }
 {
     let n = codes::cell_numbers(shape);
     let most = codes::equation_count(shape);
+    // how many are found: what is handed back ends there, so that the count is needed after the loop
     let mut u = 0;
-    let mut c = 0;
-    while c < n {
+    for c in 0..n {
         if map[c] {
             if u == most {
-                return most + 1;
+                return None;
             }
-            listed[u] = c;
+            lost[u] = Lost { cell: c, set: 0 };
             u += 1;
         }
-        c += 1;
     }
-    u
+    Some(&mut lost[..u])
 }
 
 // Fills in for each equation the set of the lost cells that it holds: bit k for lost cell number k.
-fn hold_lost(shape: Shape, listed: &[usize; bits::ROOM], lost: usize, rows: &mut [u64; bits::ROOM])
-    requires { WellFormed shape × (lost ≤ 64) × ((k : ℕ) → k < lost → get_or listed.now k 0 < cells shape) × (length listed.now ≡ 64)
-        × (length rows.old ≡ 64) × ((q : ℕ) → get_or rows.old q 0 ≡ 0) }
-    ensures { Rows shape lost listed.now rows.new }
+fn hold_lost(shape: Shape, lost: &[Lost], rows: &mut [u64])
+    requires { WellFormed shape × (length lost.now ≤ 64) × ((k : ℕ) → k < length lost.now → get_or (cells_of lost.now) k 0 < cells shape)
+        × (length rows.old ≡ equations shape) × ((q : ℕ) → get_or rows.old q 0 ≡ 0) }
+    ensures { Rows shape (length lost.now) (cells_of lost.now) rows.new }
 {
     let height = codes::row_count(shape);
-    let mut k = 0;
-    while k < lost {
-        let c = listed[k];
+    for (k, one) in lost.iter().enumerate() {
+        let c = one.cell;
         let holders = codes::holders_of(shape, c % height, c / height);
-        let one = bits::one_bit(k);
-        solve::add_to(rows, holders, one);
-        k += 1;
+        let bit = bits::one_bit(k);
+        solve::add_to(rows, holders, bit);
     }
 }
 
-// For each of the first n numbers of a list the source that it names.
-fn gather(
-    list: &[usize; bits::ROOM],
-    sources: &[u64; bits::ROOM],
-    n: usize,
-    sets: &mut [u64; bits::ROOM],
-)
-    requires { (n ≤ 64) × (length list.now ≡ 64) × (length sources.now ≡ 64) × (length sets.old ≡ 64)
-        × ((k : ℕ) → k < n → get_or list.now k 0 < 64) }
-    ensures { Gathered list.now sources.now n sets.new }
+// Gives each lost cell the source of the equation chosen for it.
+fn give_sets(lost: &mut [Lost], chosen: &[usize], sources: &[u64])
+    requires { (length chosen.now ≡ length lost.old) × ((k : ℕ) → k < length chosen.now → get_or chosen.now k 0 < length sources.now) }
+    ensures same { cells_of lost.new ≡ cells_of lost.old }
+    ensures given { Gathered chosen.now sources.now (length chosen.now) (sets_of lost.new) }
 {
-    let mut k = 0;
-    while k < n {
-        sets[k] = sources[list[k]];
-        k += 1;
+    for (k, one) in lost.iter_mut().enumerate() {
+        one.set = sources[chosen[k]];
     }
 }
 
-// Whether the survivors determine the lost cells. Where they do, what is lent holds the lost cells by rising number, for each the set of the
-// equations that gives it, and the sets that check the survivors.
-pub fn decide(
+// Lists the sources of the equations in a set.
+fn list_checks<'a>(unused: u64, sources: &[u64], checks: &'a mut [u64; bits::ROOM]) -> &'a [u64]
+    requires { Within (length sources.now) unused }
+    ensures { Checks unused sources.now result.now }
+{
+    // how many are listed: what is handed back ends there, so that the count is needed after the loop
+    let mut v = 0;
+    for q in bits::members(unused) {
+        checks[v] = sources[q];
+        v += 1;
+    }
+    &checks[..v]
+}
+
+// Whether the survivors determine the lost cells, and then the way to them, in what is lent.
+pub fn decide<'a>(
     shape: Shape,
     map: [bool; MAP],
-    listed: &mut [usize; bits::ROOM],
-    sets: &mut [u64; bits::ROOM],
-    checks: &mut [u64; bits::ROOM],
-) -> Decided
-    requires { WellFormed shape × (length listed.old ≡ 64) × (length sets.old ≡ 64) × (length checks.old ≡ 64)
-        × OnlyThere shape (lost_in map) }
-    ensures { Decision shape (lost_in map) listed.new sets.new checks.new result }
+    lost: &'a mut [Lost; bits::ROOM],
+    checks: &'a mut [u64; bits::ROOM],
+) -> Option<Way<'a>>
+    requires { WellFormed shape × OnlyThere shape (lost_in map) }
+    ensures { Decision shape (lost_in map) result }
 {
-    let u = list_lost(shape, map, listed);
+    let listed = list_lost(shape, map, lost)?;
     let n = codes::equation_count(shape);
-    if n < u {
-        return Decided::Open;
-    }
+    let u = listed.len();
     let mut rows = [0u64; bits::ROOM];
     let mut sources = [0u64; bits::ROOM];
     let mut chosen = [0usize; bits::ROOM];
-    hold_lost(shape, listed, u, &mut rows);
-    let e = solve::eliminate(&mut rows, &mut sources, &mut chosen, u, n);
-    match e {
-        Eliminated::Stopped => Decided::Open,
-        Eliminated::Passed(unused) => {
-            gather(&chosen, &sources, u, sets);
-            let mut free = [0usize; bits::ROOM];
-            let v = bits::list_members(unused, 1, &mut free);
-            gather(&free, &sources, v, checks);
-            Decided::Solved { lost: u, checks: v }
-        }
-    }
+    let rows = &mut rows[..n];
+    let sources = &mut sources[..n];
+    let chosen = &mut chosen[..u];
+    hold_lost(shape, listed, rows);
+    let unused = solve::eliminate(rows, sources, chosen)?;
+    give_sets(listed, chosen, sources);
+    let tests = list_checks(unused, sources, checks);
+    Some(Way {
+        shape,
+        lost: listed,
+        checks: tests,
+    })
 }

@@ -9,6 +9,7 @@ use native.Mathlib.Omega.{arith}
 use lib.Dec.{eqb}
 use lib.ListN.{length, get_or, take, replicate, get_or-replicate, length-replicate, get_or-eq_default}
 use borrow.Author.Tests.{eq-eqb, ne_eqb, eqb-true, not-false}
+use Rattle.std.specs.Prelude.{Option, None, Some, IsSome}
 use Rattle.xor.specs.Xor.{◌⊕◌}
 use Rattle.xor.specs.Sets.{any}
 use Rattle.xor.specs.Runs.{sum_at, added_to, Inside, Apart, Put, Says, Summed, NonzeroAt}
@@ -24,7 +25,7 @@ use Rattle.codes.specs.Encoded.{parity_cell, byte_at, parity_byte, total, fails,
 use Rattle.codes.specs.Lines.{shares, takes_shared, own_cell, sum_where, shared_sum, own_total, Listing, Found}
 use Rattle.codes.proofs.Geometry.{place_apart, parity_there, byte_there, byte_same}
 use Rattle.codes.proofs.Shared.{takes_shares, own_all, own_total_lem, own_shared, shared_total, shared_same}
-use Rattle.equation.specs.Window.{bytes_at, Window, Shares, ParityPut, ParitySet, ParityZero, fails_in}
+use Rattle.equation.specs.Window.{bytes_at, InCells, Shares, ParityPut, ParitySet, ParityZero, fails_in}
 
 -- ---- an equation fails, or it holds
 
@@ -50,9 +51,13 @@ module _ (s : Shape) (stripe : List ℕ) (q at n : ℕ) where
   pub fails_by : (f : ℕ → ℕ) → ((i : ℕ) → i < n → f i ≡ total s q (bytes_at s stripe (at + i))) → (b : Bool) → Says ((i : ℕ) → i < n → f i ≡ 0) b → not b ≡ fails_in s stripe q at n
   fails_by f is b test = fails_says b (says_zero n f (λ i. total s q (bytes_at s stripe (at + i))) b is test)
 
+-- a window of whole cells
+pub whole : (s : Shape) (stripe : List ℕ) → WellFormed s → length stripe ≡ stripe_length s → InCells s stripe 0 s.cell
+whole s stripe formed long = record { formed = formed; long = long; ends = omega arith }
+
 -- ---- places that are listed, and passed on as the first of a list
 
-module _ (s : Shape) (stripe : List ℕ) (at n : ℕ) (w : Window s stripe at n) (sum : (ℕ → ℕ) → ℕ) (m : ℕ) (places : List ℕ) (h : Listing s sum m places) where
+module _ (s : Shape) (stripe : List ℕ) (at n : ℕ) (w : InCells s stripe at n) (sum : (ℕ → ℕ) → ℕ) (m : ℕ) (places : List ℕ) (h : Listing s sum m places) where
   few : m ≤ length places
   few = omega (arith, h.few, h.long)
 
@@ -76,6 +81,9 @@ module _ (s : Shape) (stripe : List ℕ) (at n : ℕ) (w : Window s stripe at n)
   listed_summed into into' to r h =
       summed_same into into' to n (λ t. sum_at stripe (take m places) (at + t)) (λ i. sum (bytes_at s stripe (at + i))) r h (λ i l. listed_sum stripe (at + i))
 
+-- what the check has at hand of them
+pub ruleset listed = (listed_long, listed_inside, listed_sum, listed_added, listed_summed, whole, length-replicate)
+
 -- a new array has zeros
 pub new_zeros : (m i : ℕ) → ◌≡◌ {A = ℕ} (get_or (replicate m 0) i 0) 0
 new_zeros m i = by_less i m (get_or-replicate {A = ℕ} m i 0 0) (λ l. get_or-eq_default (replicate m 0) 0 (omega (arith, length-replicate {A = ℕ} m 0)))
@@ -89,7 +97,7 @@ one_added bytes into into' to n r h =
 
 -- ---- the parity cell of an equation in a window
 
-module _ (s : Shape) (stripe : List ℕ) (at n : ℕ) (w : Window s stripe at n) (q : ℕ) (lq : q < equations s) (to : ℕ) (is : to ≡ place s (parity_cell s q)) where
+module _ (s : Shape) (stripe : List ℕ) (at n : ℕ) (w : InCells s stripe at n) (q : ℕ) (lq : q < equations s) (to : ℕ) (is : to ≡ place s (parity_cell s q)) where
   own_byte : (bytes : List ℕ) (t : ℕ) → byte_at s bytes (parity_cell s q) t ≡ get_or bytes (to + t) 0
   own_byte bytes t = byte_there s w.formed bytes (parity_cell s q) t (parity_there s w.formed q lq) ∙ ap (λ (x : ℕ). get_or bytes (x + t) 0) (sym is)
 
@@ -122,7 +130,7 @@ module _ (s : Shape) (stripe : List ℕ) (at n : ℕ) (w : Window s stripe at n)
 
 -- ---- the cells that an equation sums by itself
 
-module _ (s : Shape) (stripe : List ℕ) (at n : ℕ) (w : Window s stripe at n) (q : ℕ) (r : Sources) (places : List ℕ) (h : Found s q r places) where
+module _ (s : Shape) (stripe : List ℕ) (at n : ℕ) (w : InCells s stripe at n) (q : ℕ) (r : Sources) (places : List ℕ) (h : Found s q r places) where
   -- they lie apart from the parity cell
   pub used_apart : Apart (take r.count places) r.to (at + n)
   used_apart = record {
@@ -189,13 +197,14 @@ module _ (s : Shape) (stripe : List ℕ) (at n : ℕ) where
       zero = two.zero;
     }
 
--- the first byte that is not zero is there where the equation fails
-pub failing_at : (s : Shape) (stripe : List ℕ) (q at n : ℕ) (f : ℕ → ℕ) → ((i : ℕ) → i < n → f i ≡ total s q (bytes_at s stripe (at + i))) → (r : ℕ) → fails_in s stripe q at n ≡ true → NonzeroAt f n r
+-- where the equation fails some byte is not zero, and it fails in the one that was found
+pub failing_some : (s : Shape) (stripe : List ℕ) (q at n : ℕ) (f : ℕ → ℕ) → ((i : ℕ) → i < n → f i ≡ total s q (bytes_at s stripe (at + i))) → (found : Option ℕ) → fails_in s stripe q at n ≡ true → NonzeroAt f n found → IsSome found
+failing_some s stripe q at n f is None p h = clash p (holds_everywhere s stripe q at n (λ i l. sym (is i l) ∙ h i l))
+failing_some s stripe q at n f is (Some r) p h = refl
+
+pub failing_at : (s : Shape) (stripe : List ℕ) (q at n : ℕ) (f : ℕ → ℕ) → ((i : ℕ) → i < n → f i ≡ total s q (bytes_at s stripe (at + i))) → (found : Option ℕ) (r : ℕ) → found ≡ Some r → NonzeroAt f n found
     → (r < n) × (total s q (bytes_at s stripe (at + r)) ≢ 0)
-failing_at s stripe q at n f is r p found =
-    let z = nonzero_same n r f (λ i. total s q (bytes_at s stripe (at + i))) is found in
-    let l : r < n = by_less r n (λ l. l) (λ l. clash p (holds_everywhere s stripe q at n (z.none l))) in
-    (l, z.some l)
+failing_at s stripe q at n f is found r e h = nonzero_same n (Some r) f (λ i. total s q (bytes_at s stripe (at + i))) is (subst (NonzeroAt f n) e h)
 
 -- the same of a buffer with what is shared, into which the equation's own cells are added
 module _ (s : Shape) (stripe : List ℕ) (q at n : ℕ) (w : WellFormed s) (takes : takes_shared s q ≡ true) (shared sum : List ℕ) (part : Shares s stripe at n shared)
@@ -203,12 +212,17 @@ module _ (s : Shape) (stripe : List ℕ) (q at n : ℕ) (w : WellFormed s) (take
   pub buffer_inside : Inside (length sum) (0 ∷ []) (0 + n)
   buffer_inside = one_inside sum 0 (0 + n) (omega (arith, put.long, part.long (takes_shares s q takes)))
 
-  pub buffer_failing : (r : ℕ) → fails_in s stripe q at n ≡ true → NonzeroAt (λ t. sum_at sum (0 ∷ []) (0 + t)) n r → (r < n) × (total s q (bytes_at s stripe (at + r)) ≢ 0)
-  buffer_failing =
-      failing_at s stripe q at n (λ t. sum_at sum (0 ∷ []) (0 + t))
-      (λ i l. one_first sum (0 + i) ∙ put.inner i l
+  buffer_is : (i : ℕ) → i < n → sum_at sum (0 ∷ []) (0 + i) ≡ total s q (bytes_at s stripe (at + i))
+  buffer_is i l =
+      one_first sum (0 + i) ∙ put.inner i l
       ∙ ap (λ (x : ℕ). x ⊕ own_total s q (bytes_at s stripe (at + i))) (ap (λ (k : ℕ). get_or shared k 0) (zero-add i) ∙ part.is (takes_shares s q takes) i l)
-      ∙ ⊕_comm (shared_sum s (bytes_at s stripe (at + i))) (own_total s q (bytes_at s stripe (at + i))) ∙ shared_total s w q takes (bytes_at s stripe (at + i)))
+      ∙ ⊕_comm (shared_sum s (bytes_at s stripe (at + i))) (own_total s q (bytes_at s stripe (at + i))) ∙ shared_total s w q takes (bytes_at s stripe (at + i))
+
+  pub buffer_some : (found : Option ℕ) → fails_in s stripe q at n ≡ true → NonzeroAt (λ t. sum_at sum (0 ∷ []) (0 + t)) n found → IsSome found
+  buffer_some = failing_some s stripe q at n (λ t. sum_at sum (0 ∷ []) (0 + t)) buffer_is
+
+  pub buffer_failing : (found : Option ℕ) (r : ℕ) → found ≡ Some r → NonzeroAt (λ t. sum_at sum (0 ∷ []) (0 + t)) n found → (r < n) × (total s q (bytes_at s stripe (at + r)) ≢ 0)
+  buffer_failing = failing_at s stripe q at n (λ t. sum_at sum (0 ∷ []) (0 + t)) buffer_is
 
 -- ---- the whole cell
 
@@ -227,10 +241,6 @@ fails_whole s stripe q =
     zero_where : (a b : ℕ) → eqb (a ⊕ b) 0 ≡ eqb a b
     zero_where a b = by_equal a b (λ e. eq-eqb (a ⊕ b) 0 (equal_⊕ a b e) ∙ sym (eq-eqb a b e)) (λ e. ne_eqb (a ⊕ b) 0 (λ z. e (⊕_equal a b z)) ∙ sym (ne_eqb a b e))
 
--- a window of whole cells
-pub whole : (s : Shape) (stripe : List ℕ) → WellFormed s → length stripe ≡ stripe_length s → Window s stripe 0 s.cell
-whole s stripe formed long = record { formed = formed; long = long; ends = omega arith }
-
 -- a stripe of the same length has the same windows
-pub kept_window : (s : Shape) (stripe new : List ℕ) (at n : ℕ) → Window s stripe at n → length new ≡ length stripe → Window s new at n
+pub kept_window : (s : Shape) (stripe new : List ℕ) (at n : ℕ) → InCells s stripe at n → length new ≡ length stripe → InCells s new at n
 kept_window s stripe new at n w e = record { formed = w.formed; long = e ∙ w.long; ends = w.ends }

@@ -12,7 +12,7 @@ abbrev pub bytes_at : Shape → List ℕ → ℕ → ℕ → ℕ
 bytes_at s stripe t c = byte_at s stripe c t
 
 -- bytes at to at + n of each cell of a well-formed stripe
-pub record Window (s : Shape) (stripe : List ℕ) (at n : ℕ) : Type 0 where
+pub record InCells (s : Shape) (stripe : List ℕ) (at n : ℕ) : Type 0 where
   pub formed : WellFormed s
   pub long : length stripe ≡ stripe_length s
   pub ends : at + n ≤ s.cell
@@ -21,10 +21,6 @@ pub record Window (s : Shape) (stripe : List ℕ) (at n : ℕ) : Type 0 where
 pub record Shares (s : Shape) (stripe : List ℕ) (at n : ℕ) (shared : List ℕ) : Type 0 where
   pub long : shares s ≡ true → n ≤ length shared
   pub is : shares s ≡ true → (i : ℕ) → i < n → get_or shared i 0 ≡ shared_sum s (bytes_at s stripe (at + i))
-
--- the same of byte t
-abbrev pub SharedByte : Shape → List ℕ → ℕ → ℕ → Type 0
-SharedByte s stripe t x = shares s ≡ true → x ≡ shared_sum s (bytes_at s stripe t)
 
 -- new is old with value i in byte i of the window of equation q's parity cell
 pub record ParityPut (s : Shape) (q at n : ℕ) (value : ℕ → ℕ) (old new : List ℕ) : Type 0 where

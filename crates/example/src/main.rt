@@ -3,65 +3,76 @@
 #![tactic(auto)]
 
 use bad::BadColumn;
-use codes::{Counted, Shape, Width};
-use spare::PlanAnswer;
-use std::io::{Print, Result};
+use codes::{Code, Shape};
+use refusals::Refusal;
+use std::io;
+use std::io::Print;
 
 // Writes a line: what was asked, and the number that came.
-fn tell(out: &impl Print, what: &str, number: usize) -> Result<()> {
+fn tell(out: &impl Print, what: &str, number: usize) -> io::Result<()> {
     println!(out; "{what}: {number}")
 }
 
-// Rebuilds the first row of a lost column into a spare, by a plan and a budget of one row.
-fn run_row(
-    out: &impl Print,
-    shape: Shape,
-    stripe: &[u8],
-    k: usize,
-    plan: u64,
-    spare: &mut [u8],
-) -> Result<()> {
-    match spare::run(shape, stripe, k, plan, spare, 0, 1) {
-        Counted::Count(rows) => tell(out, "rows rebuilt", rows),
-        Counted::Refused(number) => tell(out, "run refused", number),
+// Writes a line: what was asked, and 0 where it was done or else the number of the refusal.
+fn tell_done(out: &impl Print, what: &str, answer: Result<(), Refusal>) -> io::Result<()> {
+    match answer {
+        Ok(()) => tell(out, what, 0),
+        Err(why) => tell(out, what, usize::from(why)),
+    }
+}
+
+// Writes a line: what was asked, and how many came or else why it was refused.
+fn tell_count(out: &impl Print, what: &str, answer: Result<usize, Refusal>) -> io::Result<()> {
+    match answer {
+        Ok(count) => tell(out, what, count),
+        Err(why) => println!(out; "{what}: {why}"),
     }
 }
 
 // Plans the rebuild of a lost column, makes the first step, and looks at two of its cells meanwhile.
-fn rebuild_column(out: &impl Print, shape: Shape, stripe: &[u8], k: usize) -> Result<()> {
-    let PlanAnswer::Plan(plan) = spare::plan(shape, k) else {
-        return Ok(());
+fn rebuild_column(out: &impl Print, shape: Shape, stripe: &[u8], k: usize) -> io::Result<()> {
+    let plan = match spare::plan(shape, k) {
+        Ok(plan) => plan,
+        Err(why) => return println!(out; "plan: {why}"),
     };
     tell(out, "cells that the plan reads", plan.reads)?;
     let mut spare = [0u8; 2];
-    run_row(out, shape, stripe, k, plan.rows, &mut spare)?;
+    let run = spare::run(shape, stripe, k, plan.rows, &mut spare, 0, 1);
+    tell_count(out, "rows rebuilt", run)?;
     let cell = show::show(shape, stripe, &spare, k, 1, 0, k);
     tell(out, "bytes shown of row 0, which is done", cell.len())?;
-    let reason = show::show_reason(shape, stripe, &spare, k, 1, 1, k);
-    tell(out, "row 1, which is not, is refused with", reason)
+    match show::show_reason(shape, stripe, &spare, k, 1, 1, k) {
+        Some(why) => tell(
+            out,
+            "row 1, which is not, is refused with",
+            usize::from(why),
+        ),
+        None => Ok(()),
+    }
 }
 
 // A shelf of five disks: of RDP with p = 5 the first three data columns and the parity columns.
-fn five_disks(out: &impl Print) -> Result<()> {
+fn five_disks(out: &impl Print) -> io::Result<()> {
     let shape = Shape {
-        code: 1,
+        code: Code::Rdp as usize,
         p: 5,
         cell: 1,
-        width: Width::Data(3),
+        width: Some(3),
     };
     let mut stripe = [7u8; 20];
-    tell(out, "encode five disks", stripe::encode(shape, &mut stripe))?;
+    tell_done(out, "encode five disks", stripe::encode(shape, &mut stripe))?;
     stripe[8] = 0xEE;
-    tell(
+    tell_done(
         out,
         "disks 2 and 4 lost",
         rebuild::columns(shape, &mut stripe, 2, 4),
     )?;
-    match stripe::broken(shape, &stripe) {
-        Counted::Count(count) => tell(out, "equations that fail then", count)?,
-        Counted::Refused(number) => tell(out, "broken refused", number)?,
-    }
-    tell(
+    tell_count(
+        out,
+        "equations that fail then",
+        stripe::broken(shape, &stripe),
+    )?;
+    tell_done(
         out,
         "disks 2 and 5 lost",
         rebuild::columns(shape, &mut stripe, 2, 5),
@@ -69,20 +80,18 @@ fn five_disks(out: &impl Print) -> Result<()> {
 }
 
 // EVENODD with p = 3: three disks of data and two of parity. Row 1 of disk 1 is one of the cells of S.
-fn evenodd(out: &impl Print) -> Result<()> {
+fn evenodd(out: &impl Print) -> io::Result<()> {
     let shape = Shape {
-        code: 4,
+        code: Code::Evenodd as usize,
         p: 3,
         cell: 1,
-        width: Width::Full,
+        width: None,
     };
     let mut stripe = [1u8; 10];
-    tell(out, "encode EVENODD", stripe::encode(shape, &mut stripe))?;
-    match stripe::write(shape, &mut stripe, 1, 1, &[0x00u8]) {
-        Counted::Count(count) => tell(out, "parity cells that depend on row 1, disk 1", count)?,
-        Counted::Refused(number) => tell(out, "write refused", number)?,
-    }
-    tell(
+    tell_done(out, "encode EVENODD", stripe::encode(shape, &mut stripe))?;
+    let written = stripe::write(shape, &mut stripe, 1, 1, &[0x00u8]);
+    tell_count(out, "parity cells that depend on row 1, disk 1", written)?;
+    tell_done(
         out,
         "its disks 1 and 2 lost",
         rebuild::columns(shape, &mut stripe, 1, 2),
@@ -90,50 +99,48 @@ fn evenodd(out: &impl Print) -> Result<()> {
 }
 
 // RDP with p = 7, disk 0 lost: the balanced plan reads as many cells of each other disk but the last.
-fn balanced(out: &impl Print) -> Result<()> {
+fn balanced(out: &impl Print) -> io::Result<()> {
     let shape = Shape {
-        code: 1,
+        code: Code::Rdp as usize,
         p: 7,
         cell: 1,
-        width: Width::Full,
+        width: None,
     };
     match balance::balanced_plan(shape, 0) {
-        PlanAnswer::Plan(plan) => {
+        Ok(plan) => {
             tell(out, "mask of the balanced plan", plan.rows as usize)?;
             tell(out, "cells that it reads", plan.reads)
         }
-        PlanAnswer::Refused(number) => tell(out, "balanced plan refused", number),
+        Err(why) => println!(out; "balanced plan: {why}"),
     }
 }
 
 // Each call once, or more often; the program ends where it can't write.
-fn calls(out: &impl Print) -> Result<()> {
+fn calls(out: &impl Print) -> io::Result<()> {
     let shape = Shape {
-        code: 1,
+        code: Code::Rdp as usize,
         p: 3,
         cell: 1,
-        width: Width::Full,
+        width: None,
     };
     let mut stripe = [0x01u8, 0x04, 0x02, 0x08, 0, 0, 0, 0];
-    tell(out, "encode", stripe::encode(shape, &mut stripe))?;
-    match stripe::write(shape, &mut stripe, 1, 0, &[0x00u8]) {
-        Counted::Count(count) => tell(out, "parity cells that depend on row 1, column 0", count)?,
-        Counted::Refused(number) => tell(out, "write refused", number)?,
-    }
+    tell_done(out, "encode", stripe::encode(shape, &mut stripe))?;
+    let written = stripe::write(shape, &mut stripe, 1, 0, &[0x00u8]);
+    tell_count(out, "parity cells that depend on row 1, column 0", written)?;
     rebuild_column(out, shape, &stripe, 1)?;
     stripe[0] = 0xEE;
     match bad::bad_column(shape, &stripe) {
-        BadColumn::Clean => tell(out, "clean", 0)?,
-        BadColumn::Column(column) => tell(out, "bad column", column)?,
-        BadColumn::Unexplained => tell(out, "unexplained", 0)?,
-        BadColumn::Refused(number) => tell(out, "bad column refused", number)?,
+        Ok(BadColumn::Clean) => tell(out, "clean", 0)?,
+        Ok(BadColumn::Column(column)) => tell(out, "bad column", column)?,
+        Ok(BadColumn::Unexplained) => tell(out, "unexplained", 0)?,
+        Err(why) => println!(out; "bad column: {why}")?,
     }
-    tell(
+    tell_done(
         out,
         "columns 0 and 1 lost",
         rebuild::columns(shape, &mut stripe, 0, 1),
     )?;
-    tell(
+    tell_done(
         out,
         "a cell lost with both its parity cells",
         rebuild::cells(shape, &mut stripe, &[0usize, 4, 6]),
@@ -143,6 +150,6 @@ fn calls(out: &impl Print) -> Result<()> {
     balanced(out)
 }
 
-fn main(rt: HostRuntime) -> Result<()> {
+fn main(rt: HostRuntime) -> io::Result<()> {
     calls(&rt)
 }

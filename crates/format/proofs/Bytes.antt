@@ -1,5 +1,5 @@
 -- Bytes that begin with a field: its tag, its content and what follows are determined. Numbers in two bytes each.
-use mathlib.Core.Path.{◌≡◌, refl}
+use mathlib.Core.Path.{◌≡◌, refl, ap, ◌∙◌}
 use mathlib.Core.List.{List, [], ◌∷◌, ◌++◌, head-eq_of_cons-eq, tail-eq_of_cons-eq}
 use Prim.Native.Nat.{ℕ, suc, ◌+◌, ◌*◌, ◌/◌, ◌%◌, ◌<◌}
 use native.Mathlib.Omega.{arith}
@@ -23,6 +23,10 @@ pub same_two : (m n : ℕ) → two_bytes_of m ≡ two_bytes_of n → m ≡ n
 unfolding two_bytes_of
 same_two m n e = same_number m n (head-eq_of_cons-eq e) (head-eq_of_cons-eq (tail-eq_of_cons-eq e))
 
+pub length_two : (n : ℕ) → length (two_bytes_of n) ≡ 2
+unfolding two_bytes_of
+length_two n = refl
+
 -- the number of two bytes has these bytes
 pub two_bytes : (high low : ℕ) → low < 256 → two_bytes_of (high * 256 + low) ≡ high ∷ low ∷ []
 unfolding two_bytes_of
@@ -30,6 +34,12 @@ two_bytes high low l =
     let h : (high * 256 + low) / 256 ≡ high = omega arith in
     let k : (high * 256 + low) % 256 ≡ low = omega arith in
     λ i. h i ∷ k i ∷ []
+
+pub number_there : (b : List ℕ) → length b ≡ 2 → get_or b 1 0 < 256 → (n : ℕ) → n ≡ get_or b 0 0 * 256 + get_or b 1 0 → two_bytes_of n ≡ b
+number_there [] l small n e = absurd (omega arith)
+number_there (high ∷ []) l small n e = absurd (omega arith)
+number_there (high ∷ low ∷ []) l small n e = ap two_bytes_of e ∙ two_bytes high low small
+number_there (high ∷ low ∷ b ∷ more) l small n e = absurd (omega arith)
 
 -- bytes that begin with a field: its tag, its content and what follows
 pub same_field : (t u : ℕ) (a b x y : List ℕ) → field t a ++ x ≡ field u b ++ y → (t ≡ u) × (a ≡ b) × (x ≡ y)

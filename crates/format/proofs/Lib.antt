@@ -1,5 +1,5 @@
 -- The laws that proofs about the bytes of a job are made of.
 pub mod Bytes
 pub mod OneJob
-pub mod Places
+pub mod Parts
 pub mod Reading

@@ -1,7 +1,6 @@
 -- The bytes of a rebuild job and of its answer: document 01, "The job program"; for an absent cell size document 02, request 02.
-use Rattle.std.specs.Prelude.{List, [], ◌∷◌, ◌++◌, ℕ, zero, suc, ◌/◌, ◌%◌, ◌≤◌, length}
+use Rattle.std.specs.Prelude.{List, [], ◌∷◌, ◌++◌, ℕ, zero, suc, ◌/◌, ◌%◌, ◌≤◌, length, None}
 use Rattle.codes.specs.declared.Shape.{Shape}
-use Rattle.codes.specs.declared.Width.TheVariants.{Full}
 
 -- how many lost cell numbers a job may have
 abbrev pub most_lost : ℕ
@@ -66,7 +65,7 @@ pub record Fits (j : Job) : Type 0 where
 
 -- the shape of a job's stripe, which is of full width
 abbrev pub shape_of : Job → Shape
-shape_of j = record { code = j.code; p = j.p; cell = cell_size j.cell; width = Full }
+shape_of j = record { code = j.code; p = j.p; cell = cell_size j.cell; width = None }
 
 -- the bytes of an answer: field 06 with 0 or the refusal number, and after 0 field 05 with the stripe
 unfoldable pub answer_bytes : ℕ → List ℕ → List ℕ

@@ -1,3 +1,3 @@
 pub mod Format
-pub mod Places
+pub mod Parts
 pub mod Reading

@@ -2,31 +2,24 @@
 // standard error.
 #![tactic(auto)]
 
-ghost use Rattle.std.specs.Prelude.{length};
-ghost use Rattle.job.specs.Input.{Within};
+ghost use Rattle.std.specs.Prelude.{◌≤◌, length, IfOk};
 
-use std::io::{Eprint, Error, Read, Result, Write};
+use std::io::{Eprint, Read, Result, Write};
 
-// What came: so many bytes, or a read that failed.
-#[derive(Drop)]
-enum Input {
-    Bytes(usize),
-    Failed(Error),
-}
-
-// Reads until the input ends or the lent bytes are full. No read follows one that failed: what came later would join what was cut off.
-fn read_input(from: &mut impl Read, input: &mut [u8]) -> Input
-    ensures { Within (length input.new) result }
+// Reads until the input ends or the lent bytes are full, and tells how many came. No read follows one that failed: what came later would join what
+// was cut off.
+fn read_input(from: &mut impl Read, input: &mut [u8]) -> Result<usize>
+    ensures { IfOk result (λ n. n ≤ length input.new) }
 {
     let mut done = 0;
+    // No `for`: each read tells how far it came.
     while done < input.len() {
-        match from.read(&mut input[done..]) {
-            Ok(0) => break,
-            Ok(more) => done += more,
-            Err(error) => return Input::Failed(error),
+        match from.read(&mut input[done..])? {
+            0 => break,
+            more => done += more,
         }
     }
-    Input::Bytes(done)
+    Ok(done)
 }
 
 // Writes the answer to the job that these bytes are. No answer is longer than 32,775 bytes.
@@ -41,10 +34,10 @@ fn answer(to: &mut impl Write, job: &[u8]) -> Result<()> {
 fn main(rt: HostRuntime) -> Result<()> {
     let mut input = [0u8; 36884];
     match read_input(&mut rt.stdin(), &mut input) {
-        Input::Bytes(n) => match answer(&mut rt.stdout(), &input[..n]) {
+        Ok(n) => match answer(&mut rt.stdout(), &input[..n]) {
             Ok(()) => Ok(()),
             Err(error) => eprintln!(rt; "standard output: {error}"),
         },
-        Input::Failed(error) => eprintln!(rt; "standard input: {error}"),
+        Err(error) => eprintln!(rt; "standard input: {error}"),
     }
 }

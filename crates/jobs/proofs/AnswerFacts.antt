@@ -1,7 +1,7 @@
 -- What follows from the job's contract: the longest answer, and a stripe that comes back.
 use mathlib.Core.Path.{◌≡◌, refl, ap, ap₂, ◌∙◌}
 use mathlib.Core.List.{List, []}
-use Prim.Native.Nat.{ℕ, ◌+◌, ◌≤◌}
+use Prim.Native.Nat.{ℕ, zero, suc, ◌+◌, ◌≤◌}
 use native.Mathlib.Omega.{arith}
 use lib.ListN.{length, drop, length-append}
 use Rattle.xor.proofs.Cases.{by_equal}
@@ -12,9 +12,9 @@ use Rattle.decide.specs.Survivors.{Undetermined, Restores, named}
 use Rattle.rebuild.specs.Rebuild.{RebuildsCells}
 use Rattle.rebuild.proofs.Calls.{decided_long}
 use Rattle.rebuild.proofs.Facts.{cells_come_back}
-use Rattle.format.specs.Format.{most_stripe, no_job_refusal, Job, job_bytes, Fits, shape_of, answer_bytes}
+use Rattle.format.specs.Format.{most_stripe, no_job_refusal, two_bytes_of, field, Job, job_bytes, Fits, shape_of, answer_bytes}
 use Rattle.jobs.specs.Answer.{Answers, carried, no_job, AnswersInto}
-use Rattle.jobs.proofs.Storing.{length_done, length_refused}
+use Rattle.jobs.proofs.Storing.{length_done}
 use Rattle.jobs.proofs.OneAnswer.{carried_this}
 
 -- ---- an answer has at most 32,775 bytes
@@ -27,9 +27,11 @@ same_long s lost old answer new r =
     (λ n. ap (λ (x : List ℕ). length x) (r.refused n).1)
 
 bytes_most : (answer : ℕ) (stripe : List ℕ) → length stripe ≤ most_stripe → length (answer_bytes answer stripe) ≤ 7 + most_stripe
-bytes_most answer stripe l = by_equal answer 0 (λ e. omega (arith, length_done answer stripe e)) (λ n. omega (arith, length_refused answer stripe n))
+unfolding answer_bytes field two_bytes_of
+bytes_most zero stripe l = omega (arith, length_done stripe)
+bytes_most (suc n) stripe l = omega arith
 
-output_most : (input output : List ℕ) → Answers input output → length output ≤ 7 + most_stripe
+pub output_most : (input output : List ℕ) → Answers input output → length output ≤ 7 + most_stripe
 output_most input output (carried j fits _ c) =
     let long = same_long (shape_of j) j.lost j.stripe c.answer c.stripe c.rebuilds in
     omega (arith, ap (λ (x : List ℕ). length x) c.says, bytes_most c.answer c.stripe (omega (arith, fits.short)))

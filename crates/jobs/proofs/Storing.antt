@@ -7,10 +7,15 @@ use native.Mathlib.Nat.{zero-add}
 use native.Mathlib.Omega.{arith}
 use lib.ListN.{length, get_or, drop, length-append, length-drop, drop_of_length-le, get_or-append}
 use lib.Seq.{get_or-append-add, get_or-drop, ext_get_or}
-use Rattle.xor.proofs.Cases.{by_equal, by_less}
+use Rattle.xor.proofs.Cases.{by_less}
 use Rattle.xor.proofs.Runs.{put_over, put_same, put_end}
+use Rattle.std.specs.Prelude.{Result, Ok, Err}
+use Rattle.std.specs.Borrow.{Bor}
+use Rattle.refusals.specs.declared.reason.Refusal.{Refusal}
+use Rattle.refusals.specs.Number.{number_of}
+use Rattle.refusals.proofs.Answer.{not_none}
 use Rattle.format.specs.Format.{two_bytes_of, field, answer_bytes}
-use Rattle.jobs.specs.Answer.{PutInto}
+use Rattle.jobs.specs.Answer.{bytes_of, PutInto}
 use Rattle.jobs.specs.Carrying.{Stored}
 
 -- one list after the other
@@ -23,9 +28,16 @@ stored_both s s₁ s₂ a b at first second =
     (sym (length-append a b))
 
 -- the tag and the length, then the content
-pub stored_field : (s s₁ s₂ content : List ℕ) (at tag : ℕ) → Stored s at (tag ∷ length content / 256 ∷ length content % 256 ∷ []) s₁ → Stored s₁ (at + 3) content s₂ → Stored s at (field tag content) s₂
+pub stored_field : (s s₁ s₂ content head : List ℕ) (at tag : ℕ) → head ≡ tag ∷ two_bytes_of (length content) → Stored s at head s₁ → Stored s₁ (at + 3) content s₂ → Stored s at (field tag content) s₂
 unfolding field two_bytes_of
-stored_field s s₁ s₂ content at tag = stored_both s s₁ s₂ (tag ∷ length content / 256 ∷ length content % 256 ∷ []) content at
+stored_field s s₁ s₂ content head at tag e first =
+    stored_both s s₁ s₂ (tag ∷ two_bytes_of (length content)) content at (subst (λ (h : List ℕ). Stored s at h s₁) e first)
+
+pub head_is : (found tag n : ℕ) (b : List ℕ) → found ≡ tag → b ≡ n / 256 % 256 ∷ n % 256 ∷ [] → n < 65536 → found ∷ get_or b 0 0 ∷ get_or b 1 0 ∷ [] ≡ tag ∷ two_bytes_of n
+unfolding two_bytes_of
+head_is found tag n b t e l =
+    let high : n / 256 % 256 ≡ n / 256 = omega arith in
+    λ i. t i ∷ (ap (λ (x : List ℕ). get_or x 0 0) e ∙ high) i ∷ get_or (e i) 1 0 ∷ []
 
 -- bytes stored at the start, and what comes after them
 stored_start : (old bytes new : List ℕ) → length bytes ≤ length old → Stored old 0 bytes new → new ≡ bytes ++ drop (length bytes) old
@@ -63,31 +75,41 @@ writes_nothing bytes old size long narrow = record { long = long; room = λ l. a
 
 -- ---- the bytes of an answer: with the stripe after 0, alone after a refusal
 
-bytes_done : (answer : ℕ) (stripe : List ℕ) → answer ≡ 0 → answer_bytes answer stripe ≡ field 6 (answer ∷ []) ++ field 5 stripe
+-- after a refusal the stripe does not count
+pub bytes_refused : (why : Refusal) (stripe : List ℕ) → answer_bytes (number_of why) stripe ≡ field 6 (number_of why ∷ [])
 unfolding answer_bytes
-bytes_done zero stripe e = refl
-bytes_done (suc n) stripe e = absurd (omega arith)
+bytes_refused why stripe = by_number (number_of why) (not_none why)
+  where
+    by_number : (n : ℕ) → n ≢ 0 → answer_bytes n stripe ≡ field 6 (n ∷ [])
+    by_number zero some = absurd (some refl)
+    by_number (suc n) some = refl
 
-bytes_refused : (answer : ℕ) (stripe : List ℕ) → answer ≢ 0 → answer_bytes answer stripe ≡ field 6 (answer ∷ [])
-unfolding answer_bytes
-bytes_refused zero stripe n = absurd (n refl)
-bytes_refused (suc n) stripe k = refl
+pub length_done : (stripe : List ℕ) → length (answer_bytes 0 stripe) ≡ 7 + length stripe
+unfolding answer_bytes field two_bytes_of
+length_done stripe = omega arith
 
-pub length_done : (answer : ℕ) (stripe : List ℕ) → answer ≡ 0 → length (answer_bytes answer stripe) ≡ 7 + length stripe
+pub length_refused : (why : Refusal) (stripe : List ℕ) → length (answer_bytes (number_of why) stripe) ≡ 4
 unfolding field two_bytes_of
-length_done answer stripe e = ap (λ (x : List ℕ). length x) (bytes_done answer stripe e) ∙ omega arith
+length_refused why stripe = ap length (bytes_refused why stripe)
 
-pub length_refused : (answer : ℕ) (stripe : List ℕ) → answer ≢ 0 → length (answer_bytes answer stripe) ≡ 4
-unfolding field two_bytes_of
-length_refused answer stripe n = ap (λ (x : List ℕ). length x) (bytes_refused answer stripe n)
+-- the bytes of what is answered, and that they are stored
 
-pub first_fits : (answer : ℕ) (stripe : List ℕ) → 4 ≤ length (answer_bytes answer stripe)
-first_fits answer stripe = by_equal answer 0 (λ e. omega (arith, length_done answer stripe e)) (λ n. omega (arith, length_refused answer stripe n))
+module _ (answer : Result (Bor (List ℕ)) Refusal) (stripe : Bor (List ℕ)) (given : answer ≡ Ok stripe) where
+  pub size_given : length (bytes_of answer) ≡ 7 + length stripe.now
+  size_given = ap (λ a. length (bytes_of a)) given ∙ length_done stripe.now
 
-pub stored_done : (old s₁ s₂ stripe : List ℕ) (answer : ℕ) → answer ≡ 0 → Stored old 0 (field 6 (answer ∷ [])) s₁ → Stored s₁ 4 (field 5 stripe) s₂ → Stored old 0 (answer_bytes answer stripe) s₂
-unfolding field two_bytes_of
-stored_done old s₁ s₂ stripe answer e first second =
-    subst (λ (x : List ℕ). Stored old 0 x s₂) (sym (bytes_done answer stripe e)) (stored_both old s₁ s₂ (field 6 (answer ∷ [])) (field 5 stripe) 0 first second)
+  pub written_given : (old s₁ s₂ : List ℕ) (size : ℕ) → size ≡ length (bytes_of answer) → size ≤ length old
+      → Stored old 0 (field 6 (0 ∷ [])) s₁ → Stored s₁ 4 (field 5 stripe.now) s₂ → PutInto (bytes_of answer) old size s₂
+  unfolding answer_bytes field two_bytes_of
+  written_given old s₁ s₂ size long fits first second =
+      writes_stored (bytes_of answer) old size s₂ long fits
+      (subst (λ (a : Result (Bor (List ℕ)) Refusal). Stored old 0 (bytes_of a) s₂) (sym given) (stored_both old s₁ s₂ (field 6 (0 ∷ [])) (field 5 stripe.now) 0 first second))
 
-pub stored_refused : (old s₁ stripe : List ℕ) (answer : ℕ) → answer ≢ 0 → Stored old 0 (field 6 (answer ∷ [])) s₁ → Stored old 0 (answer_bytes answer stripe) s₁
-stored_refused old s₁ stripe answer n first = subst (λ (x : List ℕ). Stored old 0 x s₁) (sym (bytes_refused answer stripe n)) first
+module _ (answer : Result (Bor (List ℕ)) Refusal) (why : Refusal) (refused : answer ≡ Err why) where
+  pub size_refused : length (bytes_of answer) ≡ 4
+  size_refused = ap (λ a. length (bytes_of a)) refused ∙ length_refused why []
+
+  pub written_refused : (old s₁ : List ℕ) (size number : ℕ) → number ≡ number_of why → size ≡ length (bytes_of answer) → size ≤ length old → Stored old 0 (field 6 (number ∷ [])) s₁ → PutInto (bytes_of answer) old size s₁
+  written_refused old s₁ size number is long fits first =
+      writes_stored (bytes_of answer) old size s₁ long fits
+      (subst (λ (b : List ℕ). Stored old 0 b s₁) (ap (λ (n : ℕ). field 6 (n ∷ [])) is ∙ sym (bytes_refused why []) ∙ ap bytes_of (sym refused)) first)

@@ -1,7 +1,15 @@
 -- What a job is answered: document 01, "The job program".
-use Rattle.std.specs.Prelude.{◌≡◌, List, [], ◌++◌, ℕ, ◌≤◌, ◌<◌, length, drop}
+use Rattle.std.specs.Prelude.{◌≡◌, List, [], ◌++◌, ℕ, ◌≤◌, ◌<◌, length, drop, Result, Ok, Err}
+use Rattle.std.specs.Borrow.{Bor}
+use Rattle.refusals.specs.declared.reason.Refusal.{Refusal}
+use Rattle.refusals.specs.Number.{number_of}
 use Rattle.rebuild.specs.Rebuild.{RebuildsCells}
 use Rattle.format.specs.Format.{no_job_refusal, Job, Fits, job_bytes, shape_of, answer_bytes}
+
+-- the bytes of an answer: with the stripe that is given, or of a refusal
+abbrev pub bytes_of : Result (Bor (List ℕ)) Refusal → List ℕ
+bytes_of (Ok stripe) = answer_bytes 0 stripe.now
+bytes_of (Err refusal) = answer_bytes (number_of refusal) []
 
 -- the output is the answer to job j: what the rebuild of its lost cells answers, and after 0 the stripe that it leaves
 pub record Carried (j : Job) (output : List ℕ) : Type 0 where

@@ -1,86 +1,89 @@
 // A rebuild job as a function on bytes: its fields are read, the lost cells rebuilt, and the answer's fields written.
 #![tactic(auto)]
 
-ghost use Rattle.std.specs.Prelude.{◌≡◌, ◌+◌, ◌*◌, ◌≤◌, ◌<◌, length};
-ghost use Rattle.format.specs.Format.{most_lost, most_stripe, Job, field, answer_bytes};
+ghost use Rattle.std.specs.Prelude.{◌≡◌, ◌+◌, ◌≤◌, ◌<◌, length};
+ghost use Rattle.refusals.specs.Number.{number};
+ghost use Rattle.format.specs.Format.{most_lost, most_stripe, Job, field};
+ghost use Rattle.format.specs.Parts.{tag_number};
 ghost use Rattle.format.specs.Reading.{Holds};
 ghost use Rattle.jobs.specs.Carrying.{Lists, Rebuilt, Stored};
-ghost use Rattle.jobs.specs.Answer.{PutInto, AnswersInto};
+ghost use Rattle.jobs.specs.Answer.{bytes_of, Answers, PutInto, AnswersInto};
 
-use format::{Fields, Found};
+use format::{Fields, Tag};
+use refusals::Refusal;
 
-// The refusal of bytes that are no job's.
-const NO_JOB: usize = 13;
-
-// Reads the numbers of the lost cells, as many as `count` says, from `at` on.
-fn read_lost(input: &[u8], at: usize, count: usize, lost: &mut [usize; format::MOST_LOST])
-    requires { (count ≤ most_lost) × (at + 2 * count ≤ length input.now) × (length lost.old ≡ most_lost) }
-    ensures { Lists input.now at count lost.new }
+// Reads the numbers of the lost cells, two bytes each. By index: of a `zip` over `iter_mut` no fact says what the list ends as, and the proof
+// didn't close.
+fn read_lost(pairs: &[[u8; 2]], lost: &mut [usize; format::MOST_LOST])
+    requires { (length pairs.now ≤ most_lost) × (length lost.old ≡ most_lost) }
+    ensures { Lists pairs.now lost.new }
 {
-    let mut k = 0;
-    while k < count {
-        lost[k] = format::two_bytes(input, at + 2 * k);
-        k += 1;
+    for (k, pair) in pairs.iter().enumerate() {
+        lost[k] = format::two_bytes(*pair);
     }
 }
 
 // Stores a field from `at` on: its tag, the length of its content in two bytes, high byte first, and the content.
-fn put_field(output: &mut [u8], at: usize, tag: u8, content: &[u8])
+fn put_field(output: &mut [u8], at: usize, tag: Tag, content: &[u8])
     requires { (length content.now < 65536) × (at + 3 + length content.now ≤ length output.old) }
-    ensures { Stored output.old at (field tag content.now) output.new }
+    ensures { Stored output.old at (field (tag_number tag) content.now) output.new }
 {
-    let n = content.len();
-    let head = [tag, (n / 256) as u8, (n % 256) as u8];
+    let [high, low] = (content.len() as u16).to_be_bytes();
+    let head = [u8::from(tag), high, low];
     xor::put_run(output, at, &head);
     xor::put_run(output, at + 3, content);
 }
 
-// How long an answer is: field 06 has four bytes, and field 05, after 0 only, three more than the stripe.
-fn answer_size(answer: usize, stripe: &[u8]) -> usize
-    requires { length stripe.now ≤ most_stripe }
-    ensures { result ≡ length (answer_bytes answer stripe.now) }
+// How long an answer is: field 06 has four bytes, and field 05, which no refusal has, three more than the stripe.
+fn answer_size(answer: Result<&[u8], Refusal>) -> usize
+    requires { length (bytes_of answer) ≤ 7 + most_stripe }
+    ensures { result ≡ length (bytes_of answer.entry) }
 {
-    if answer != 0 { 4 } else { stripe.len() + 7 }
+    match answer {
+        Ok(stripe) => stripe.len() + 7,
+        Err(_) => 4,
+    }
 }
 
 // Writes the answer's fields at the start of the output where there is room for all of them. Answers how long they are.
-fn write_answer(answer: usize, stripe: &[u8], output: &mut [u8]) -> usize
-    requires { (answer < 256) × (length stripe.now ≤ most_stripe) }
-    ensures { PutInto (answer_bytes answer stripe.now) output.old result output.new }
+fn write_answer(answer: Result<&[u8], Refusal>, output: &mut [u8]) -> usize
+    requires { length (bytes_of answer) ≤ 7 + most_stripe }
+    ensures { PutInto (bytes_of answer.entry) output.old result output.new }
 {
-    let size = answer_size(answer, stripe);
+    let size = answer_size(answer);
     if output.len() < size {
         return size;
     }
-    put_field(output, 0, 6, &[answer as u8]);
-    if answer == 0 {
-        put_field(output, 4, 5, stripe);
+    match answer {
+        Ok(stripe) => {
+            put_field(output, 0, Tag::Answer, &[0]);
+            put_field(output, 4, Tag::Stripe, stripe);
+        }
+        Err(refusal) => put_field(output, 0, Tag::Answer, &[usize::from(refusal) as u8]),
     }
     size
 }
 
-// Rebuilds the lost cells of a job in a copy of its stripe, made in the lent bytes. Answers as the rebuild does.
-fn rebuild_job(input: &[u8], f: Fields, stripe: &mut [u8]) -> usize
-    requires { ((j : Job) × Holds input.now j f) × (length stripe.old ≡ f.stripe_bytes) }
-    ensures { Rebuilt input.now f result stripe.new }
+// Rebuilds the lost cells of a job in a copy of its stripe, made in the lent bytes.
+fn rebuild_job(f: Fields, stripe: &mut [u8]) -> Result<(), Refusal>
+    requires { ((j : Job) × Holds j f) × (length stripe.old ≡ length f.stripe.now) }
+    ensures { Rebuilt f.entry (number result) stripe.new }
 {
-    let at = f.stripe_at;
-    let end = at + f.stripe_bytes;
-    xor::put_run(stripe, 0, &input[at..end]);
+    stripe.copy_from_slice(f.stripe);
     let mut lost = [0usize; format::MOST_LOST];
-    let count = f.lost_count;
-    read_lost(input, f.lost_at, count, &mut lost);
-    let shape = f.shape;
-    rebuild::cells(shape, stripe, &lost[..count])
+    read_lost(f.lost, &mut lost);
+    rebuild::cells(f.shape, stripe, &lost[..f.lost.len()])
 }
 
-// Carries out the job whose fields are given, in lent bytes as long as its stripe, and writes the answer. Answers how long the answer is.
-fn carry_out(input: &[u8], f: Fields, stripe: &mut [u8], output: &mut [u8]) -> usize
-    requires { ((j : Job) × Holds input.now j f) × (length stripe.old ≡ f.stripe_bytes) }
-    ensures { AnswersInto input.now output.old result output.new }
+// Carries out the job that the bytes are, in lent bytes with room for every stripe. Gives its stripe with the lost cells rebuilt.
+fn carry_out<'a>(input: &[u8], space: &'a mut [u8]) -> Result<&'a [u8], Refusal>
+    requires { length space.old ≡ most_stripe }
+    ensures { Answers input.now (bytes_of result) }
 {
-    let answer = rebuild_job(input, f, stripe);
-    write_answer(answer, stripe, output)
+    let f = format::read_job(input).ok_or(Refusal::NoJob)?;
+    let stripe = &mut space[..f.stripe.len()];
+    rebuild_job(f, stripe)?;
+    Ok(stripe)
 }
 
 // The job: reads a rebuild job from bytes, rebuilds its lost cells, and writes the answer. Answers how long the answer is: with room for it the lent
@@ -88,10 +91,6 @@ fn carry_out(input: &[u8], f: Fields, stripe: &mut [u8], output: &mut [u8]) -> u
 pub fn answer(input: &[u8], output: &mut [u8]) -> usize
     ensures { AnswersInto input.now output.old result output.new }
 {
-    let Found::Lies(f) = format::read_job(input) else {
-        return write_answer(NO_JOB, &[], output);
-    };
-    let n = f.stripe_bytes;
-    let mut stripe = [0u8; format::MOST_STRIPE];
-    carry_out(input, f, &mut stripe[..n], output)
+    let mut space = [0u8; format::MOST_STRIPE];
+    write_answer(carry_out(input, &mut space), output)
 }

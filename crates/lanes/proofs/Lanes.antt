@@ -2,21 +2,23 @@
 use mathlib.Core.Path.{◌≡◌, refl, sym, ap, ap₂, ◌∙◌, subst}
 use mathlib.Core.Logic.{◌≢◌, ◌⊎◌, inl, inr, ⊎_elim}
 use mathlib.Core.List.{List}
-use mathlib.Core.Bool.{Bool, true, false, cond, ◌&&◌, ◌||◌, and-false, or-false}
+use mathlib.Core.Bool.{Bool, true, false, cond, not, ◌&&◌, ◌||◌, and-true, and-false, or-false}
 use Prim.Native.Nat.{ℕ, zero, suc, ◌+◌, ◌-◌, ◌*◌, ◌^◌, ◌≤◌, ◌<◌}
-use native.Mathlib.Nat.{mul-one, zero-add, add_assoc}
+use native.Mathlib.Nat.{zero-add, add_assoc}
 use native.Mathlib.Omega.{arith}
 use lib.Bits.{bit_and, bit_or}
 use lib.Dec.{eqb, leb, ltb}
-use lib.ListN.{length, get_or, take}
-use borrow.Author.Tests.{eq-eqb, ne_eqb, eqb-true, lt-ltb, le-ltb, le-leb, lt-leb}
+use lib.ListN.{length, get_or}
+use borrow.Author.Tests.{eq-eqb, ne_eqb, lt-ltb, le-ltb, le-leb, lt-leb}
+use Rattle.std.specs.Prelude.{Option, is_some}
 use Rattle.xor.specs.Xor.{◌⊕◌, xors}
 use Rattle.xor.specs.Runs.{sum_at, added_to, Inside, Put, Says, NonzeroAt}
-use Rattle.xor.proofs.Cases.{by_test, by_equal, by_less, clash, not_passed, same_test, and_left, and_right, and_both, either, or_right}
+use Rattle.xor.proofs.Cases.{by_test, by_equal, by_less, clash, not_passed, and_both, or_right}
 use Rattle.xor.proofs.Algebra.{⊕_zero, ⊕_assoc}
 use Rattle.xor.proofs.Sums.{nothing, xors_none, xors_more, xors_same, xors_zero}
-use Rattle.xor.proofs.Runs.{first_inside, first_sum, put_same, says_same, says_zero, nonzero_says}
-use Rattle.bits.specs.Bit.{bit, Members, Union}
+use Rattle.xor.proofs.Runs.{put_same, says_same, says_zero, nonzero_says}
+use Rattle.bits.specs.Bit.{bit, Within, TakesLowest, Members, Union}
+use Rattle.bits.proofs.Finding.{taken_is, left_within, left_without, left_others}
 use Rattle.bits.proofs.Bits.{bit_and_lem, bit_or_lem, bit_zero, bit_power}
 use Rattle.codes.specs.declared.Shape.{Shape}
 use Rattle.codes.specs.Shape.{cells, equations, WellFormed}
@@ -25,123 +27,110 @@ use Rattle.codes.proofs.Shapes.{small_equations}
 use Rattle.codes.specs.Geometry.{cell_there, place}
 use Rattle.codes.proofs.Geometry.{place_apart, byte_there, byte_same}
 use Rattle.codes.proofs.Solutions.{total_same}
-use Rattle.decide.specs.Solver.{summed, mended, Sets}
+use Rattle.decide.specs.Solver.{CellsIn, summed, mended, cells_of, sets_of, Sets}
+use Rattle.decide.proofs.Lists.{cell_at}
+use Rattle.decide.specs.declared.Lost.{Lost}
+use Rattle.std.specs.Prelude.{Some}
+use Rattle.std.proofs.lemmas.List.{length-map}
+use Rattle.equation.specs.declared.Window.{Window}
 use Rattle.equation.specs.Window.{bytes_at, fails_in}
+use Rattle.equation.specs.InWindow.{IsWhole}
 use Rattle.equation.proofs.Windows.{not_failing}
+use Rattle.equation.proofs.Whole.{of_whole}
 use Rattle.lanes.specs.Lanes.{lane_sum, Totals, Failing, Passes, LanesOf, Filled, Mends}
 
 -- ---- the totals of equations
 
-module _ (s : Shape) (stripe : List ℕ) (at n : ℕ) where
-  -- the lanes of the first k numbers of a list are done
-  pub record TotalsTo (list : List ℕ) (k : ℕ) (lanes : List ℕ) : Type 0 where
+module _ (s : Shape) (stripe : List ℕ) (at n : ℕ) (whole : ℕ) where
+  -- the lanes of the members that are not still to come are done
+  pub record TotalsTo (rest : ℕ) (lanes : List ℕ) : Type 0 where
     pub long : length lanes ≡ 32768
-    pub lane : (j : ℕ) → j < k → (i : ℕ) → i < n → get_or lanes (get_or list j 0 * 512 + i) 0 ≡ total s (get_or list j 0) (bytes_at s stripe (at + i))
+    pub within : (q : ℕ) → bit q rest ≡ true → bit q whole ≡ true
+    pub lane : (q : ℕ) → bit q whole ≡ true → bit q rest ≡ false → (i : ℕ) → i < n → get_or lanes (q * 512 + i) 0 ≡ total s q (bytes_at s stripe (at + i))
 
-  pub totals_none : (list lanes : List ℕ) → length lanes ≡ 32768 → TotalsTo list 0 lanes
-  totals_none list lanes long = record { long = long; lane = λ j l. absurd (omega arith) }
+  pub totals_none : (rest : ℕ) (lanes : List ℕ) → rest ≡ whole → length lanes ≡ 32768 → TotalsTo rest lanes
+  totals_none rest lanes e long = record { long = long; within = λ q p. ap (bit q) (sym e) ∙ p; lane = λ q p off. clash p (ap (bit q) (sym e) ∙ off) }
 
-  pub totals_more : (list : List ℕ) (k : ℕ) (lanes lanes' : List ℕ) → n ≤ 512 → TotalsTo list k lanes
-      → Put lanes (get_or list k 0 * 512) n (λ i. total s (get_or list k 0) (bytes_at s stripe (at + i))) lanes' → TotalsTo list (k + 1) lanes'
-  totals_more list k lanes lanes' few h put = record {
+  pub totals_more : (rest q left : ℕ) (lanes lanes' : List ℕ) → n ≤ 512 → TakesLowest rest (Some q) left → TotalsTo rest lanes
+      → Put lanes (q * 512) n (λ i. total s q (bytes_at s stripe (at + i))) lanes' → TotalsTo left lanes'
+  totals_more rest q left lanes lanes' few took h put = record {
     long = put.long ∙ h.long;
-    lane = λ j l i li. by_equal (get_or list j 0) (get_or list k 0)
-        (λ e. ap (λ (q : ℕ). get_or lanes' (q * 512 + i) 0) e ∙ put.inner i li ∙ ap (λ (q : ℕ). total s q (bytes_at s stripe (at + i))) (sym e))
-        (λ e. put.outer (get_or list j 0 * 512 + i) (apart (get_or list j 0) i li e) ∙ h.lane j (earlier j l e) i li);
+    within = λ r p. h.within r (left_within rest q left took r p);
+    lane = λ r p off i li. by_equal r q
+        (λ e. ap (λ (k : ℕ). get_or lanes' (k * 512 + i) 0) e ∙ put.inner i li ∙ ap (λ (k : ℕ). total s k (bytes_at s stripe (at + i))) (sym e))
+        (λ e. put.outer (r * 512 + i) (apart r i li e) ∙ h.lane r p (sym (left_others rest q left took r e) ∙ off) i li);
   }
     where
-      earlier : (j : ℕ) → j < k + 1 → get_or list j 0 ≢ get_or list k 0 → j < k
-      earlier j l e = by_equal j k (λ z. absurd (e (ap (λ (i : ℕ). get_or list i 0) z))) (λ z. omega arith)
+      apart : (r i : ℕ) → i < n → r ≢ q → (r * 512 + i < q * 512) ⊎ (q * 512 + n ≤ r * 512 + i)
+      apart r i li e = by_less r q (λ l. inl (omega arith)) (λ l. inr (omega arith))
 
-      apart : (q i : ℕ) → i < n → q ≢ get_or list k 0 → (q * 512 + i < get_or list k 0 * 512) ⊎ (get_or list k 0 * 512 + n ≤ q * 512 + i)
-      apart q i li e = by_less q (get_or list k 0) (λ l. inl (omega arith)) (λ l. inr (omega arith))
-
-  pub totals_all : WellFormed s → (set count : ℕ) (list lanes : List ℕ) (k : ℕ) → ((r : ℕ) → bit r set ≡ true → r < equations s) → Members set 1 count list → count ≤ k → TotalsTo list k lanes
-      → Totals s stripe set at n lanes
-  totals_all w set count list lanes k below members end h = record {
-    long = h.long;
-    holds = λ r p i l.
-        let found = members.all r (omega (arith, below r p, small_equations s w)) p in
-        let is : get_or list found.0 0 ≡ r = found.2 ∙ mul-one r in
-        ap (λ (q : ℕ). get_or lanes (q * 512 + i) 0) (sym is) ∙ h.lane found.0 (omega (arith, found.1)) i l ∙ ap (λ (q : ℕ). total s q (bytes_at s stripe (at + i))) is;
-  }
+  pub totals_all : (rest : ℕ) (lanes : List ℕ) → rest ≡ 0 → TotalsTo rest lanes → Totals s stripe whole at n lanes
+  totals_all rest lanes e h = record { long = h.long; holds = λ q p i l. h.lane q p (ap (bit q) e ∙ bit_zero q) i l }
 
   -- ---- which of them fail
 
-  -- of the first k numbers of a list, those that fail
-  pub record FailingTo (list : List ℕ) (k failing : ℕ) : Type 0 where
-    pub within : (q : ℕ) → bit q failing ≡ true → (j : ℕ) × (j < k) × (get_or list j 0 ≡ q)
-    pub fails : (j : ℕ) → j < k → bit (get_or list j 0) failing ≡ fails_in s stripe (get_or list j 0) at n
+  -- of the members that are not still to come, those that fail
+  pub record FailingTo (rest failing : ℕ) : Type 0 where
+    pub within : (q : ℕ) → bit q rest ≡ true → bit q whole ≡ true
+    pub is : (q : ℕ) → bit q failing ≡ (bit q whole && not (bit q rest) && fails_in s stripe q at n)
 
-  pub failing_none : (list : List ℕ) → FailingTo list 0 0
-  failing_none list = record { within = λ q p. clash p (bit_zero q); fails = λ j l. absurd (omega arith) }
+  pub failing_none : (rest : ℕ) → rest ≡ whole → FailingTo rest 0
+  failing_none rest e = record { within = λ q p. ap (bit q) (sym e) ∙ p; is = λ q. bit_zero q ∙ sym (ap (λ (m : ℕ). bit q whole && not (bit q m) && fails_in s stripe q at n) e ∙ not_both (bit q whole) (fails_in s stripe q at n)) }
+    where
+      not_both : (a b : Bool) → (a && not a && b) ≡ false
+      not_both true b = refl
+      not_both false b = refl
 
-  module _ (list : List ℕ) (k failing : ℕ) (h : FailingTo list k failing) where
-    -- one more, of which the mask says already what it should
-    failing_next : (mask : ℕ) → ((q : ℕ) → bit q mask ≡ true → (bit q failing ≡ true) ⊎ (get_or list k 0 ≡ q)) → ((q : ℕ) → q ≢ get_or list k 0 → bit q mask ≡ bit q failing)
-        → bit (get_or list k 0) mask ≡ fails_in s stripe (get_or list k 0) at n → FailingTo list (k + 1) mask
-    failing_next mask made same here = record {
-      within = λ q p. ⊎_elim (λ old. let found = h.within q old in (found.0, omega (arith, found.1), found.2)) (λ e. (k, omega arith, e)) (made q p);
-      fails = λ j l. by_equal (get_or list j 0) (get_or list k 0)
-          (λ e. ap (λ (q : ℕ). bit q mask) e ∙ here ∙ ap (λ (q : ℕ). fails_in s stripe q at n) (sym e))
-          (λ e. same (get_or list j 0) e ∙ h.fails j (by_equal j k (λ z. absurd (e (ap (λ (i : ℕ). get_or list i 0) z))) (λ z. omega arith)));
+  module _ (rest q left failing : ℕ) (took : TakesLowest rest (Some q) left) (h : FailingTo rest failing) where
+    -- one more, of which the mask says what it should
+    failing_next : (mask : ℕ) → ((r : ℕ) → r ≢ q → bit r mask ≡ bit r failing) → bit q mask ≡ fails_in s stripe q at n → FailingTo left mask
+    failing_next mask same here = record {
+      within = λ r p. h.within r (left_within rest q left took r p);
+      is = λ r. by_equal r q
+          (λ e. ap (λ (k : ℕ). bit k mask) e ∙ here ∙ ap (λ (k : ℕ). fails_in s stripe k at n) (sym e)
+          ∙ sym (ap₂ (λ (a b : Bool). a && not b && fails_in s stripe r at n) (ap (λ (k : ℕ). bit k whole) e ∙ h.within q (taken_is rest q left took)) (left_without rest q left took r e)))
+          (λ e. same r e ∙ h.is r ∙ ap (λ (b : Bool). bit r whole && not b && fails_in s stripe r at n) (sym (left_others rest q left took r e)));
     }
 
-    pub failing_not : fails_in s stripe (get_or list k 0) at n ≡ false → FailingTo list (k + 1) failing
-    failing_not holds =
-        failing_next failing (λ q p. inl p) (λ q e. refl)
-        (not_passed (λ p. let found = h.within (get_or list k 0) p in
-        clash p (ap (λ (q : ℕ). bit q failing) (sym found.2) ∙ h.fails found.0 found.1 ∙ ap (λ (q : ℕ). fails_in s stripe q at n) found.2 ∙ holds)) ∙ sym holds)
+    -- it is not in the mask before its turn
+    absent : bit q failing ≡ false
+    absent = h.is q ∙ ap (λ (b : Bool). bit q whole && not b && fails_in s stripe q at n) (taken_is rest q left took) ∙ ap (λ (b : Bool). b && fails_in s stripe q at n) (and-false (bit q whole))
 
-    pub failing_more : (one : ℕ) → one ≡ 2 ^ get_or list k 0 → fails_in s stripe (get_or list k 0) at n ≡ true → FailingTo list (k + 1) (bit_or failing one)
+    pub failing_not : fails_in s stripe q at n ≡ false → FailingTo left failing
+    failing_not holds = failing_next failing (λ r e. refl) (absent ∙ sym holds)
+
+    pub failing_more : (one : ℕ) → one ≡ 2 ^ q → fails_in s stripe q at n ≡ true → FailingTo left (bit_or failing one)
     failing_more one e fail =
         failing_next (bit_or failing one)
-        (λ q p. either (bit q failing) (eqb q (get_or list k 0)) (sym (is q) ∙ p) (λ old. inl old) (λ new. inr (sym (eqb-true q (get_or list k 0) new))))
-        (λ q off. is q ∙ ap (λ (b : Bool). bit q failing || b) (ne_eqb q (get_or list k 0) off) ∙ or-false (bit q failing))
-        (is (get_or list k 0) ∙ or_right (bit (get_or list k 0) failing) (eq-eqb (get_or list k 0) (get_or list k 0) refl) ∙ sym fail)
+        (λ r off. is r ∙ ap (λ (b : Bool). bit r failing || b) (ne_eqb r q off) ∙ or-false (bit r failing))
+        (is q ∙ or_right (bit q failing) (eq-eqb q q refl) ∙ sym fail)
       where
-        is : (q : ℕ) → bit q (bit_or failing one) ≡ (bit q failing || eqb q (get_or list k 0))
-        is q = bit_or_lem q failing one ∙ ap (λ (m : ℕ). bit q failing || bit q m) e ∙ ap (λ (b : Bool). bit q failing || b) (bit_power q (get_or list k 0))
+        is : (r : ℕ) → bit r (bit_or failing one) ≡ (bit r failing || eqb r q)
+        is r = bit_or_lem r failing one ∙ ap (λ (m : ℕ). bit r failing || bit r m) e ∙ ap (λ (b : Bool). bit r failing || b) (bit_power r q)
 
-  pub failing_all : WellFormed s → (set count : ℕ) (list : List ℕ) (k failing : ℕ) → ((r : ℕ) → bit r set ≡ true → r < equations s) → Members set 1 count list → k ≡ count → FailingTo list k failing
-      → Failing s stripe set at n failing
-  failing_all w set count list k failing below members end h q = same_test there back
-    where
-      there : bit q failing ≡ true → (bit q set && fails_in s stripe q at n) ≡ true
-      there p =
-          let found = h.within q p in
-          let member = members.member found.0 (omega (arith, found.1)) in
-          let is : member.0 ≡ q = sym (mul-one member.0) ∙ sym member.3 ∙ found.2 in
-          and_both (ap (λ (r : ℕ). bit r set) (sym is) ∙ member.2)
-          (ap (λ (r : ℕ). fails_in s stripe r at n) (sym found.2) ∙ sym (h.fails found.0 found.1) ∙ ap (λ (r : ℕ). bit r failing) found.2 ∙ p)
-
-      back : (bit q set && fails_in s stripe q at n) ≡ true → bit q failing ≡ true
-      back p =
-          let inside = and_left (bit q set) (fails_in s stripe q at n) p in
-          let found = members.all q (omega (arith, below q inside, small_equations s w)) inside in
-          let is : get_or list found.0 0 ≡ q = found.2 ∙ mul-one q in
-          ap (λ (r : ℕ). bit r failing) (sym is) ∙ h.fails found.0 (omega (arith, found.1)) ∙ ap (λ (r : ℕ). fails_in s stripe r at n) is ∙ and_right (bit q set) (fails_in s stripe q at n) p
+  pub failing_all : (rest failing : ℕ) → rest ≡ 0 → FailingTo rest failing → Failing s stripe whole at n failing
+  failing_all rest failing e h q =
+      h.is q ∙ ap (λ (b : Bool). bit q whole && not b && fails_in s stripe q at n) (ap (bit q) e ∙ bit_zero q) ∙ ap (λ (b : Bool). b && fails_in s stripe q at n) (and-true (bit q whole))
 
 -- ---- sums of lanes
 
-module _ (lanes : List ℕ) (set count : ℕ) (places : List ℕ) (h : Members set 512 count places) where
-  pub lanes_inside : (n long : ℕ) → n ≤ 512 → long ≡ 32768 → Inside long (take count places) n
-  lanes_inside n long few e =
-      first_inside places count (omega (arith, h.few, h.long)) long n (λ k l. let found = h.member k l in omega (arith, found.1, found.3))
+module _ (lanes : List ℕ) (set : ℕ) (places : List ℕ) (h : Members set 512 places) where
+  pub lanes_inside : (n long : ℕ) → n ≤ 512 → long ≡ 32768 → Inside long places n
+  lanes_inside n long few e = record { ends = λ k l. let found = h.member k l in omega (arith, found.1, found.3) }
 
-  lane_sum_lem : (i : ℕ) → sum_at lanes (take count places) (0 + i) ≡ lane_sum lanes set i
-  unfolding lane_sum
-  lane_sum_lem i = ap (sum_at lanes (take count places)) (zero-add i) ∙ first_sum places count (omega (arith, h.few, h.long)) lanes i ∙ h.sum (λ p. get_or lanes (p + i) 0)
+  lane_sum_lem : (i : ℕ) → sum_at lanes places (0 + i) ≡ lane_sum lanes set i
+  unfolding lane_sum sum_at
+  lane_sum_lem i = ap (λ (j : ℕ). xors (length places) (λ k. get_or lanes (get_or places k 0 + j) 0)) (zero-add i) ∙ h.sum (λ p. get_or lanes (p + i) 0)
 
-  pub lanes_say : (n r : ℕ) → NonzeroAt (λ i. sum_at lanes (take count places) (0 + i)) n r → Says ((i : ℕ) → i < n → lane_sum lanes set i ≡ 0) (eqb r n)
-  lanes_say n r h =
-      says_zero n (λ i. sum_at lanes (take count places) (0 + i)) (λ i. lane_sum lanes set i) (eqb r n) (λ i l. lane_sum_lem i)
-      (nonzero_says (λ i. sum_at lanes (take count places) (0 + i)) n r h)
+  pub lanes_say : (n : ℕ) (found : Option ℕ) (r : Bool) → is_some found ≡ not r → NonzeroAt (λ i. sum_at lanes places (0 + i)) n found → Says ((i : ℕ) → i < n → lane_sum lanes set i ≡ 0) r
+  lanes_say n found r e h =
+      says_zero n (λ i. sum_at lanes places (0 + i)) (λ i. lane_sum lanes set i) r (λ i l. lane_sum_lem i)
+      (nonzero_says (λ i. sum_at lanes places (0 + i)) n found r e h)
 
-  pub lanes_added : (d d' : List ℕ) (to n : ℕ) → Put d to n (added_to d to lanes (take count places) 0) d' → Put d to n (λ i. get_or d (to + i) 0 ⊕ lane_sum lanes set i) d'
+  pub lanes_added : (d d' : List ℕ) (to n : ℕ) → Put d to n (added_to d to lanes places 0) d' → Put d to n (λ i. get_or d (to + i) 0 ⊕ lane_sum lanes set i) d'
   unfolding added_to
   lanes_added d d' to n put =
-      put_same d d' to n (added_to d to lanes (take count places) 0) (λ i. get_or d (to + i) 0 ⊕ lane_sum lanes set i) put
+      put_same d d' to n (added_to d to lanes places 0) (λ i. get_or d (to + i) 0 ⊕ lane_sum lanes set i) put
       (λ i l. ap (λ (x : ℕ). get_or d (to + i) 0 ⊕ x) (lane_sum_lem i))
 
 -- the lanes of no equation
@@ -184,17 +173,37 @@ module _ (s : Shape) (w : WellFormed s) (stripe : List ℕ) (set at n : ℕ) (la
             nothing (bit r m && bit r failing) (get_or lanes (r * 512 + i) 0) none ∙ sym (nothing (bit r m) (get_or lanes (r * 512 + i) 0) none))
 
     -- the lanes of sets tell whether the stripe passes the checks
-    pub checks_say : (v : ℕ) (checks : List ℕ) (r : Bool) → Sets s v checks → Union v checks set
-        → Says ((j : ℕ) → j < v → (i : ℕ) → i < n → lane_sum lanes (bit_and (get_or checks j 0) failing) i ≡ 0) r → Says ((i : ℕ) → i < n → Passes s stripe v checks (at + i)) r
-    checks_say v checks r sets union =
-        says_same ((j : ℕ) → j < v → (i : ℕ) → i < n → lane_sum lanes (bit_and (get_or checks j 0) failing) i ≡ 0) ((i : ℕ) → i < n → Passes s stripe v checks (at + i)) r
+    pub checks_say : (checks : List ℕ) (r : Bool) → Sets s (length checks) checks → Union checks set
+        → Says ((j : ℕ) → j < length checks → (i : ℕ) → i < n → lane_sum lanes (bit_and (get_or checks j 0) failing) i ≡ 0) r → Says ((i : ℕ) → i < n → Passes s stripe (length checks) checks (at + i)) r
+    checks_say checks r sets union =
+        says_same ((j : ℕ) → j < length checks → (i : ℕ) → i < n → lane_sum lanes (bit_and (get_or checks j 0) failing) i ≡ 0) ((i : ℕ) → i < n → Passes s stripe (length checks) checks (at + i)) r
         (λ z i l. record { zero = λ j lj. sym (check j lj i l) ∙ z j lj i l }) (λ z j lj i l. check j lj i l ∙ (z i l).zero j lj)
       where
-        check : (j : ℕ) → j < v → (i : ℕ) → i < n → lane_sum lanes (bit_and (get_or checks j 0) failing) i ≡ summed s (get_or checks j 0) (bytes_at s stripe (at + i))
-        check j lj i l = failing_sum (get_or checks j 0) (union.within j lj) i l ∙ totals_sum (get_or checks j 0) (union.within j lj) (sets.below j lj) i l
+        check : (j : ℕ) → j < length checks → (i : ℕ) → i < n → lane_sum lanes (bit_and (get_or checks j 0) failing) i ≡ summed s (get_or checks j 0) (bytes_at s stripe (at + i))
+        check j lj i l = failing_sum (get_or checks j 0) (union.within j lj) i l ∙ totals_sum (get_or checks j 0) (union.within j lj) ((sets.within j lj).below) i l
 
-  pub totals_of : (u : ℕ) (sets : List ℕ) → Sets s u sets → Union u sets set → LanesOf s stripe u sets at n lanes
-  totals_of u sets h' union = record { sum = λ k l i li. totals_sum (get_or sets k 0) (union.within k l) (h'.below k l) i li }
+  pub totals_of : (sets : List ℕ) → Sets s (length sets) sets → Union sets set → LanesOf s stripe (length sets) sets at n lanes
+  totals_of sets h' union = record { sum = λ k l i li. totals_sum (get_or sets k 0) (union.within k l) ((h'.within k l).below) i li }
+
+-- the sets of lost cells
+pub sets_long : (s : Shape) (lost : List Lost) → Sets s (length lost) (sets_of lost) → Sets s (length (sets_of lost)) (sets_of lost)
+sets_long s lost h = subst (λ (n : ℕ). Sets s n (sets_of lost)) (sym (length-map lost (λ x. x.set))) h
+
+pub lanes_long : (s : Shape) (stripe : List ℕ) (lost : List Lost) (at n : ℕ) (lanes : List ℕ) → LanesOf s stripe (length (sets_of lost)) (sets_of lost) at n lanes
+    → LanesOf s stripe (length lost) (sets_of lost) at n lanes
+lanes_long s stripe lost at n lanes h = subst (λ (u : ℕ). LanesOf s stripe u (sets_of lost) at n lanes) (length-map lost (λ x. x.set)) h
+
+-- a lost cell exists
+module _ (s : Shape) (lost : List Lost) (h : CellsIn s (length lost) (cells_of lost)) (k : ℕ) (l : k < length lost) where
+  pub cell_inside : (get_or lost k (record { cell = 0; set = 0 })).cell < cells s
+  cell_inside = subst (λ (c : ℕ). c < cells s) (cell_at lost k) (h.inside k l)
+
+  pub cell_exists : cell_there s (get_or lost k (record { cell = 0; set = 0 })).cell ≡ true
+  cell_exists = subst (λ (c : ℕ). cell_there s c ≡ true) (cell_at lost k) (h.there k l)
+
+-- the union of sets of equations
+pub within_union : (s : Shape) (sets : List ℕ) (set : ℕ) → Sets s (length sets) sets → Union sets set → Within (equations s) set
+within_union s sets set h union = record { below = λ r p. let found = union.made r p in (h.within found.0 found.1).below r found.2 }
 
 -- ---- what holds of all numbers below v, one after the other
 
@@ -211,33 +220,35 @@ module _ (P : ℕ → Type 0) where
 -- ---- the checks, lane by lane
 
 module _ (s : Shape) (stripe : List ℕ) (v : ℕ) (checks : List ℕ) (at : ℕ) where
-  -- the first `done` bytes from `at` on pass
-  abbrev pub PassesTo : ℕ → Type 0
-  PassesTo done = (i : ℕ) → i < done → Passes s stripe v checks (at + i)
+  -- of n bytes from `at` on the first `done` pass
+  abbrev pub PassesTo : ℕ → ℕ → Type 0
+  PassesTo n done = (i : ℕ) → i < done → i < n → Passes s stripe v checks (at + i)
 
-  pub passes_more : (done m : ℕ) → PassesTo done → ((i : ℕ) → i < m → Passes s stripe v checks (at + done + i)) → PassesTo (done + m)
-  passes_more done m before here i l =
-      by_less i done (before i)
+  pub passes_more : (n done next m : ℕ) → next ≤ done + m → PassesTo n done → ((i : ℕ) → i < m → Passes s stripe v checks (at + done + i)) → PassesTo n next
+  passes_more n done next m far before here i l ln =
+      by_less i done (λ lo. before i lo ln)
       (λ lo. let e : at + done + (i - done) ≡ at + i = omega arith in subst (λ (k : ℕ). Passes s stripe v checks k) e (here (i - done) (omega arith)))
 
-  pub passes_not : (n done m : ℕ) (r : Bool) → done + m ≤ n → Says ((i : ℕ) → i < m → Passes s stripe v checks (at + done + i)) r → r ≡ false → Says (PassesTo n) false
+  pub passes_not : (n done m : ℕ) (r : Bool) → done + m ≤ n → Says ((i : ℕ) → i < m → Passes s stripe v checks (at + done + i)) r → r ≡ false → Says ((i : ℕ) → i < n → Passes s stripe v checks (at + i)) false
   passes_not n done m r end h e = record {
     yes = λ z. clash z refl;
     no = λ z all. h.no e (λ i l. subst (λ (k : ℕ). Passes s stripe v checks k) (sym (add_assoc at done i)) (all (done + i) (omega arith)));
   }
 
-  pub passes_all : (n done : ℕ) → n ≤ done → PassesTo done → Says (PassesTo n) true
-  passes_all n done l h = record { yes = λ z i lt. h i (omega arith); no = λ z all. clash refl z }
+  pub passes_all : (n done : ℕ) → n ≤ done → PassesTo n done → Says ((i : ℕ) → i < n → Passes s stripe v checks (at + i)) true
+  passes_all n done l h = record { yes = λ z i lt. h i (omega arith) lt; no = λ z all. clash refl z }
 
   -- without checks there is nothing that fails
-  pub passes_none : (n : ℕ) → v ≡ 0 → Says (PassesTo n) true
-  passes_none n none = passes_all n n (omega arith) (λ i l. record { zero = λ j lj. absurd (omega arith) })
+  pub passes_none : (n : ℕ) → v ≡ 0 → Says ((i : ℕ) → i < n → Passes s stripe v checks (at + i)) true
+  passes_none n none = record { yes = λ z i l. record { zero = λ j lj. absurd (omega arith) }; no = λ z all. clash refl z }
 
--- the whole of the cells
-pub passes_whole : (s : Shape) (stripe : List ℕ) (v : ℕ) (checks : List ℕ) (r : Bool) → Says (PassesTo s stripe v checks 0 s.cell) r → Says ((t : ℕ) → t < s.cell → Passes s stripe v checks t) r
-passes_whole s stripe v checks r =
-    says_same (PassesTo s stripe v checks 0 s.cell) ((t : ℕ) → t < s.cell → Passes s stripe v checks t) r
+-- a window that is the whole of the cells
+pub passes_whole : (w : Window) (s : Shape) (stripe : List ℕ) → IsWhole w s stripe → (v : ℕ) (checks : List ℕ) (r : Bool)
+    → Says ((i : ℕ) → i < w.n → Passes w.shape w.stripe.now v checks (w.at + i)) r → Says ((t : ℕ) → t < s.cell → Passes s stripe v checks t) r
+passes_whole w s stripe h v checks r says =
+    says_same ((i : ℕ) → i < s.cell → Passes s stripe v checks (0 + i)) ((t : ℕ) → t < s.cell → Passes s stripe v checks t) r
     (λ z t l. subst (λ (k : ℕ). Passes s stripe v checks k) (zero-add t) (z t l)) (λ z i l. subst (λ (k : ℕ). Passes s stripe v checks k) (sym (zero-add i)) (z i l))
+    (of_whole w s stripe h (λ z b a n. Says ((i : ℕ) → i < n → Passes z b v checks (a + i)) r) says)
 
 -- ---- the lost cells mended
 
@@ -365,21 +376,23 @@ module _ (s : Shape) (w : WellFormed s) (list sets : List ℕ) where
     byte = λ c l t lt. sym (ap (λ (z : Bool). cond z (mended s list sets u (bytes_at s old t) c) (byte_at s old c t)) (after_range 0 0 t (omega arith)));
   }
 
-  pub filled_whole : (u at : ℕ) (old new : List ℕ) → at ≡ s.cell → Filled s list sets u 0 at old new → Filled s list sets u 0 s.cell old new
-  filled_whole u at old new e h = subst (λ (n : ℕ). Filled s list sets u 0 n old new) e h
+  pub filled_to : (u from to next : ℕ) (old new : List ℕ) → to ≡ next → Filled s list sets u from to old new → Filled s list sets u from next old new
+  filled_to u from to next old new e h = subst (λ (n : ℕ). Filled s list sets u from n old new) e h
 
--- ---- what is mended, and what is not
+  -- no byte of a cell lies past its end
+  pub filled_whole : (u to : ℕ) (old new : List ℕ) → s.cell ≤ to → Filled s list sets u 0 to old new → Filled s list sets u 0 s.cell old new
+  filled_whole u to old new past h = record {
+    long = h.long;
+    byte = λ c l t lt. h.byte c l t lt
+        ∙ ap (λ (b : Bool). cond (leb 0 t && b) (mended s list sets u (bytes_at s old t) c) (byte_at s old c t)) (lt-ltb t to (omega arith) ∙ sym (lt-ltb t s.cell lt));
+  }
 
-module _ (s : Shape) (list sets : List ℕ) (u : ℕ) (checks : List ℕ) (v : ℕ) (old : List ℕ) where
-  -- filled exactly where the survivors pass
-  abbrev pub Either : Bool → List ℕ → Type 0
-  Either r new = ((r ≡ true) × Filled s list sets u 0 s.cell old new) ⊎ ((r ≡ false) × (new ≡ old))
+-- ---- what is mended
 
-  pub mends_done : (r : Bool) (new : List ℕ) → Says ((t : ℕ) → t < s.cell → Passes s old v checks t) r → Either r new → r ≡ true → Mends s list sets u checks v old 0 new
-  mends_done r new h e is = record { number = inl refl; twelve = λ n. absurd (n refl); done = λ z. (h.yes is, ⊎_elim (λ f. f.1) (λ n. clash is n.0) e) }
+pub mends_done : (s : Shape) (list sets : List ℕ) (u : ℕ) (checks : List ℕ) (v : ℕ) (old new : List ℕ) (r : Bool) → Says ((t : ℕ) → t < s.cell → Passes s old v checks t) r
+    → r ≡ true → Filled s list sets u 0 s.cell old new → Mends s list sets u checks v old r new
+mends_done s list sets u checks v old new r says is filled = record { kept = λ no. clash is no; done = λ yes. (says.yes yes, filled) }
 
-  pub mends_not : (r : Bool) (new : List ℕ) → Says ((t : ℕ) → t < s.cell → Passes s old v checks t) r → Either r new → r ≡ false → Mends s list sets u checks v old 12 new
-  mends_not r new h e is = record { number = inr refl; twelve = λ n. (h.no is, ⊎_elim (λ f. clash f.0 is) (λ n. n.1) e); done = λ z. absurd (omega arith) }
-
-  pub mends_long : (answer : ℕ) (new : List ℕ) → Mends s list sets u checks v old answer new → length new ≡ length old
-  mends_long answer new h = ⊎_elim (λ z. (h.done z).1.long) (λ z. ap length (h.twelve (λ e. omega arith)).1) h.number
+pub mends_kept : (s : Shape) (list sets : List ℕ) (u : ℕ) (checks : List ℕ) (v : ℕ) (old : List ℕ) (r : Bool) → Says ((t : ℕ) → t < s.cell → Passes s old v checks t) r
+    → r ≡ false → Mends s list sets u checks v old r old
+mends_kept s list sets u checks v old r says is = record { kept = λ e. (says.no e, refl); done = λ e. clash e is }

@@ -1,12 +1,12 @@
 -- The bytes of a lane: up to 512 bytes of each cell, from `at` on. Lane r of an array on the stack starts at byte 512 r.
-use Rattle.std.specs.Prelude.{◌≡◌, ◌≢◌, ◌⊎◌, List, true, cond, ◌&&◌, ℕ, ◌+◌, ◌*◌, ◌≤◌, ◌<◌, leb, ltb, length, get_or}
+use Rattle.std.specs.Prelude.{◌≡◌, List, Bool, true, false, cond, ◌&&◌, ℕ, ◌+◌, ◌*◌, ◌≤◌, ◌<◌, leb, ltb, length, get_or}
 use Rattle.xor.specs.Xor.{xors}
 use Rattle.bits.specs.Bit.{bit}
 use Rattle.codes.specs.declared.Shape.{Shape}
 use Rattle.codes.specs.Shape.{cells}
 use Rattle.codes.specs.Geometry.{cell_there}
 use Rattle.codes.specs.Encoded.{byte_at, total}
-use Rattle.equation.specs.Window.{bytes_at, Window, fails_in}
+use Rattle.equation.specs.Window.{bytes_at, fails_in}
 use Rattle.decide.specs.Solver.{summed, mended}
 
 -- how many bytes a lane has, and the lanes of all equations that there may be
@@ -16,9 +16,8 @@ lane = 512
 abbrev pub room : ℕ
 room = 32768
 
--- bytes at to at + n of each cell of a well-formed stripe, and room for as many in each lane
-pub record InLane (s : Shape) (stripe : List ℕ) (at n : ℕ) (lanes : List ℕ) : Type 0 where
-  pub window : Window s stripe at n
+-- room for n bytes in each lane
+pub record InLane (n : ℕ) (lanes : List ℕ) : Type 0 where
   pub few : n ≤ lane
   pub space : length lanes ≡ room
 
@@ -39,12 +38,6 @@ lane_sum lanes set i = xors 64 (λ r. cond (bit r set) (get_or lanes (r * lane +
 pub record Passes (s : Shape) (stripe : List ℕ) (n : ℕ) (checks : List ℕ) (t : ℕ) : Type 0 where
   pub zero : (j : ℕ) → j < n → summed s (get_or checks j 0) (bytes_at s stripe t) ≡ 0
 
--- the first n numbers listed are cells that exist
-pub record CellsIn (s : Shape) (n : ℕ) (lostCells : List ℕ) : Type 0 where
-  pub long : length lostCells ≡ 64
-  pub inside : (k : ℕ) → k < n → get_or lostCells k 0 < cells s
-  pub there : (k : ℕ) → k < n → cell_there s (get_or lostCells k 0) ≡ true
-
 -- the lanes of each of the first u sets sum to what the set gives, in bytes at to at + n
 pub record LanesOf (s : Shape) (stripe : List ℕ) (u : ℕ) (sets : List ℕ) (at n : ℕ) (lanes : List ℕ) : Type 0 where
   pub sum : (k : ℕ) → k < u → (i : ℕ) → i < n → lane_sum lanes (get_or sets k 0) i ≡ summed s (get_or sets k 0) (bytes_at s stripe (at + i))
@@ -55,8 +48,7 @@ pub record Filled (s : Shape) (lostCells sets : List ℕ) (k from to : ℕ) (old
   pub byte : (c : ℕ) → c < cells s → (t : ℕ) → t < s.cell
       → byte_at s new c t ≡ cond (leb from t && ltb t to) (mended s lostCells sets k (bytes_at s old t) c) (byte_at s old c t)
 
--- 12 where the survivors don't pass the checks in every byte, with every byte as it was; else 0, and new is old with the lost cells mended
-pub record Mends (s : Shape) (lostCells sets : List ℕ) (u : ℕ) (checks : List ℕ) (v : ℕ) (old : List ℕ) (answer : ℕ) (new : List ℕ) : Type 0 where
-  pub number : (answer ≡ 0) ⊎ (answer ≡ 12)
-  pub twelve : answer ≢ 0 → (((t : ℕ) → t < s.cell → Passes s old v checks t) → ⊥) × (new ≡ old)
-  pub done : answer ≡ 0 → ((t : ℕ) → t < s.cell → Passes s old v checks t) × Filled s lostCells sets u 0 s.cell old new
+-- whether the survivors pass the checks in every byte: where they do, new is old with the lost cells mended; where they don't, it is old
+pub record Mends (s : Shape) (lostCells sets : List ℕ) (u : ℕ) (checks : List ℕ) (v : ℕ) (old : List ℕ) (agree : Bool) (new : List ℕ) : Type 0 where
+  pub kept : agree ≡ false → (((t : ℕ) → t < s.cell → Passes s old v checks t) → ⊥) × (new ≡ old)
+  pub done : agree ≡ true → ((t : ℕ) → t < s.cell → Passes s old v checks t) × Filled s lostCells sets u 0 s.cell old new

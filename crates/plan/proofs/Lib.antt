@@ -1,6 +1,7 @@
 -- The laws behind plan: the rule, acceptance, and how many distinct cells a plan reads.
 pub mod Column
 pub mod Diagonals
+pub mod Chosen
 pub mod Refused
 pub mod Accepted
 pub mod Rule

@@ -1,8 +1,8 @@
 -- From what the program does to what a rebuild promises: the stripe at exit is the encoded stripe that agrees with the survivors, or there is none.
 use mathlib.Core.Path.{◌≡◌, refl, sym, ap, ap₂, ◌∙◌, subst}
-use mathlib.Core.Logic.{◌≢◌, inl, inr, ⊎_elim}
+use mathlib.Core.Logic.{inl, inr, ⊎_elim}
 use mathlib.Core.List.{List}
-use mathlib.Core.Bool.{Bool, false, cond, ◌&&◌}
+use mathlib.Core.Bool.{Bool, true, false, cond, ◌&&◌}
 use Prim.Native.Nat.{ℕ, ◌<◌}
 use native.Mathlib.Omega.{arith}
 use lib.ListN.{length, get_or}
@@ -17,8 +17,10 @@ use Rattle.codes.proofs.Solutions.{solves_same}
 use Rattle.decide.specs.Survivors.{Restores}
 use Rattle.decide.specs.Solver.{mended, Solver}
 use Rattle.decide.proofs.Determined.{determined, kept_cell}
-use Rattle.equation.specs.Window.{bytes_at, fails_in}
-use Rattle.equation.proofs.Windows.{fails_whole}
+use Rattle.equation.specs.declared.Window.{Window}
+use Rattle.equation.specs.Window.{bytes_at}
+use Rattle.equation.specs.InWindow.{IsWhole, is_failing}
+use Rattle.equation.proofs.Whole.{whole_fails}
 use Rattle.stripe.proofs.BrokenFacts.{not_failing, holds_everywhere}
 use Rattle.lanes.specs.Lanes.{Passes, Filled, Mends}
 use Rattle.rebuild.specs.Rebuild.{Decides, disagree, restored}
@@ -51,10 +53,12 @@ module _ (s : Shape) (w : WellFormed s) (lost : ℕ → Bool) (u : ℕ) (list se
     pub must_pass : (x : List ℕ) → Restores s lost old x → (t : ℕ) → t < s.cell → Passes s old v checks t
     must_pass x h t lt = record { zero = solver.needed (bytes_at s old t) (bytes_at s x t) (λ q l. h.is.encoded.holds q l t lt) (λ c l e. h.agree.same c l e t lt) }
 
-    pub decides_mended : (answer : ℕ) → Mends s list sets u checks v old answer new → Decides s lost old answer new
-    decides_mended answer h =
-        ⊎_elim (λ z. let did = h.done z in restored (determined s w lost u list sets v checks solver) (mended_so did.0 did.1) z)
-        (λ z. let did = h.twelve (λ e. omega arith) in disagree (determined s w lost u list sets v checks solver) (λ x r. did.0 (must_pass x r)) z did.1) h.number
+    -- the survivors agree, or they don't
+    pub decides_mended : Mends s list sets u checks v old true new → Decides s lost old 0 new
+    decides_mended h = let did = h.done refl in restored (determined s w lost u list sets v checks solver) (mended_so did.0 did.1) refl
+
+    pub decides_kept : Mends s list sets u checks v old false new → Decides s lost old 12 new
+    decides_kept h = let did = h.kept refl in disagree (determined s w lost u list sets v checks solver) (λ x r. did.0 (must_pass x r)) refl did.1
 
     -- nothing is lost
     pub decides_clean : u ≡ 0 → new ≡ old → (answer : ℕ) → CleanOrNot s old answer → Decides s lost old answer new
@@ -72,19 +76,21 @@ module _ (s : Shape) (w : WellFormed s) (lost : ℕ → Bool) (u : ℕ) (list se
         whole : (x : List ℕ) → Restores s lost old x → x ≡ old
         whole x r = same_bytes s w x old r.is.long long (λ c l t lt. sym (r.agree.same c l (survives c l) t lt))
 
--- no equation fails, or one does
-module _ (s : Shape) (stripe : List ℕ) (r : ℕ) (first : IsLowest (equations s) (λ q. fails_in s stripe q 0 s.cell) r) where
-  pub clean_zero : r ≡ equations s → CleanOrNot s stripe 0
-  clean_zero e = record {
+-- no equation fails in the whole of the cells, or one does
+module _ (s : Shape) (stripe : List ℕ) (w : Window) (whole : IsWhole w s stripe) where
+  same : equations w.shape ≡ equations s
+  same = ap equations whole.shape
+
+  pub clean_zero : IsLowest (equations w.shape) (is_failing w) (equations w.shape) → CleanOrNot s stripe 0
+  clean_zero first = record {
     number = inl refl;
-    clean = λ z. record { holds = λ q l. not_failing s stripe q (sym (fails_whole s stripe q) ∙ first.before q (omega arith)) };
+    clean = λ z. record { holds = λ q l. not_failing s stripe q (sym (whole_fails w s stripe whole q) ∙ first.before q (omega (arith, same))) };
     not' = λ n. absurd (n refl);
   }
 
-  pub clean_twelve : r ≢ equations s → CleanOrNot s stripe 12
-  clean_twelve n = record {
+  pub clean_twelve : (r : ℕ) → r < equations w.shape → IsLowest (equations w.shape) (is_failing w) r → CleanOrNot s stripe 12
+  clean_twelve r below first = record {
     number = inr refl;
     clean = λ z. absurd (omega arith);
-    not' = λ z h. let below : r < equations s = (let most = first.most in omega arith) in
-        clash (first.passes below) (fails_whole s stripe r ∙ holds_everywhere s stripe r (h.holds r below));
+    not' = λ z h. clash (first.passes below) (whole_fails w s stripe whole r ∙ holds_everywhere s stripe r (h.holds r (omega (arith, same))));
   }

@@ -8,16 +8,16 @@ use native.Mathlib.Omega.{arith}
 use lib.Dec.{eqb, leb, ltb}
 use lib.ListN.{length, get_or}
 use borrow.Author.Tests.{eqb-true, eqb-false, ltb-true, ltb-false, leb-false, lt-leb, lt-ltb, not-false}
+use Rattle.std.specs.declared.option.Option.TheVariants.{Some}
 use Rattle.xor.specs.Sets.{any}
 use Rattle.xor.proofs.Cases.{by_test, same_test}
 use Rattle.xor.proofs.Sets.{any_none, none_any}
 use Rattle.codes.specs.declared.Shape.{Shape}
-use Rattle.codes.specs.declared.Width.TheVariants.{Full, Data}
 use Rattle.codes.specs.Shape.{last_code, listed, rows, missing, disks, existing, stripe_length, WellFormed}
 use Rattle.codes.specs.Geometry.{column_of, cell_at}
 use Rattle.codes.specs.Encoded.{is_parity}
 use Rattle.codes.specs.Depends.{WriteRight}
-use Rattle.codes.proofs.Shapes.{full_missing, data_missing}
+use Rattle.codes.proofs.Shapes.{data_missing}
 use Rattle.codes.proofs.Geometry.{column_there, is_there_lem}
 use Rattle.refusals.specs.Refusals.{fault, outside, other_length, order, refusal, code_faults, size_faults, shape_faults, stripe_faults, write_faults, cells_faults, columns_faults}
 use Rattle.refusals.proofs.Order.{None, Gives, After, after, alone, gives, none_of}
@@ -65,12 +65,8 @@ pub prime_listed : (s : Shape) → refusal (code_faults s) ≡ 0 → listed s.p 
 unfolding order
 prime_listed s none = not-false _ (none_of (code_faults s) refl none).1.1.0
 
--- no column is missing where no number of data columns is given
-pub full_is : (s : Shape) → s.width ≡ Full → false ≡ ltb 0 (missing s)
-full_is s e = ap (ltb 0) (full_missing s e)
-
--- where one is, some are missing exactly if it is below p-1
-pub short_is : (s : Shape) (m : ℕ) → s.width ≡ Data m → ltb m (s.p - 1) ≡ ltb 0 (missing s)
+-- where a number of data columns is given, some are missing exactly if it is below p-1
+pub short_is : (s : Shape) (m : ℕ) → s.width ≡ Some m → ltb m (s.p - 1) ≡ ltb 0 (missing s)
 short_is s m e =
     same_test (λ h. lt-ltb 0 (s.p - 1 - m) (omega (arith, ltb-true m (s.p - 1) h))) (λ h. lt-ltb m (s.p - 1) (omega (arith, ltb-true 0 (s.p - 1 - m) h)))
     ∙ ap (ltb 0) (data_missing s m e)

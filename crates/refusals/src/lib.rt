@@ -1,4 +1,5 @@
-// The refusals that calls share, by their numbers: of a shape, of a stripe's length, of a small write, and of calls that name cells or columns.
+// Why calls are refused, and the checks that they share: of a shape, of a stripe's length, of a small write, and of calls that name cells or
+// columns. Each check gives the first refusal in order that applies.
 #![tactic(auto)]
 
 ghost use Rattle.std.specs.Prelude.{◌≡◌, true, ℕ, ◌<◌, ltb, length, get_or};
@@ -6,29 +7,30 @@ ghost use Rattle.xor.specs.Runs.{Says};
 ghost use Rattle.codes.specs.Shape.{listed, rows, missing, wrong_data, disks, WellFormed};
 ghost use Rattle.codes.specs.Geometry.{cell_at};
 ghost use Rattle.codes.specs.Encoded.{is_parity};
+ghost use Rattle.refusals.specs.Number.{number};
 ghost use Rattle.refusals.specs.Refusals.{refusal, code_faults, size_faults, shape_faults, stripe_faults, write_faults, cells_faults, columns_faults};
 
-use codes::{Shape, Width};
+use codes::{Code, Shape};
+
+mod reason;
+
+pub use reason::Refusal;
 
 // Whether p is one of the ten primes.
 fn is_listed(p: usize) -> bool
     ensures { result ≡ listed p }
 {
-    match p {
-        3 | 5 | 7 | 11 | 13 | 17 | 19 | 23 | 29 | 31 => true,
-        _ => false,
-    }
+    matches!(p, 3 | 5 | 7 | 11 | 13 | 17 | 19 | 23 | 29 | 31)
 }
 
 // Whether a number of data columns is given that can't be: outside 1 to p - 1, or for another code than RDP.
 fn data_wrong(shape: Shape) -> bool
     ensures { result ≡ wrong_data shape.code shape.p shape.width }
 {
-    let width = shape.width;
-    let Width::Data(m) = width else {
+    let Some(m) = shape.width else {
         return false;
     };
-    if shape.code != 1 {
+    if shape.code != Code::Rdp as usize {
         return true;
     }
     if m == 0 {
@@ -37,23 +39,18 @@ fn data_wrong(shape: Shape) -> bool
     shape.p <= m
 }
 
-// The refusal of a code, a prime and a number of data columns: 1, 2 or 14, the first that applies, or 0.
-pub fn code_refusal(shape: Shape) -> usize
-    ensures { result ≡ refusal (code_faults shape) }
+// Checks a code, a prime and a number of data columns.
+pub fn check_code(shape: Shape) -> Result<(), Refusal>
+    ensures { number result ≡ refusal (code_faults shape) }
 {
-    if shape.code == 0 {
-        return 1;
-    }
-    if 4 < shape.code {
-        return 1;
-    }
+    Code::try_from(shape.code)?;
     if !is_listed(shape.p) {
-        return 2;
+        return Err(Refusal::Prime);
     }
     if data_wrong(shape) {
-        return 14;
+        return Err(Refusal::DataColumns);
     }
-    0
+    Ok(())
 }
 
 // Whether some data column doesn't exist.
@@ -61,49 +58,42 @@ pub fn is_short(shape: Shape) -> bool
     requires { listed shape.p ≡ true }
     ensures { result ≡ ltb 0 (missing shape) }
 {
-    let width = shape.width;
-    let Width::Data(m) = width else {
+    let Some(m) = shape.width else {
         return false;
     };
     m < shape.p - 1
 }
 
-// The refusal of a cell size: 4 or 0.
-pub fn size_refusal(shape: Shape) -> usize
-    ensures { result ≡ refusal (size_faults shape) }
+// Checks a cell size.
+pub fn check_size(shape: Shape) -> Result<(), Refusal>
+    ensures { number result ≡ refusal (size_faults shape) }
 {
     if shape.cell == 0 {
-        return 4;
+        return Err(Refusal::CellSize);
     }
     if codes::MOST_CELL < shape.cell {
-        return 4;
+        return Err(Refusal::CellSize);
     }
-    0
+    Ok(())
 }
 
-// The refusal of a shape by itself: what is wrong with its code or prime, or else with its cell size, or 0.
-pub fn shape_refusal(shape: Shape) -> usize
-    ensures { result ≡ refusal (shape_faults shape) }
+// Checks a shape by itself: its code, its prime and its data columns, then its cell size.
+pub fn check_shape(shape: Shape) -> Result<(), Refusal>
+    ensures { number result ≡ refusal (shape_faults shape) }
 {
-    let refusal = code_refusal(shape);
-    if refusal != 0 {
-        return refusal;
-    }
-    size_refusal(shape)
+    check_code(shape)?;
+    check_size(shape)
 }
 
-// The refusal of a call on a lent stripe of so many bytes: the lowest number that applies, or 0.
-pub fn stripe_refusal(shape: Shape, bytes: usize) -> usize
-    ensures { result ≡ refusal (stripe_faults shape bytes) }
+// Checks what every call on a lent stripe of so many bytes is told.
+pub fn check_stripe(shape: Shape, bytes: usize) -> Result<(), Refusal>
+    ensures { number result ≡ refusal (stripe_faults shape bytes) }
 {
-    let refusal = shape_refusal(shape);
-    if refusal != 0 {
-        return refusal;
-    }
+    check_shape(shape)?;
     if bytes != codes::stripe_bytes(shape) {
-        return 5;
+        return Err(Refusal::Length);
     }
-    0
+    Ok(())
 }
 
 // Whether the cell in a row and in the column that a caller calls d is a parity cell.
@@ -114,71 +104,61 @@ fn parity_at(shape: Shape, row: usize, d: usize) -> bool
     codes::is_parity(shape, row, codes::column_of(shape, d))
 }
 
-// The refusal of a small write: the lowest number that applies, or 0.
-pub fn write_refusal(shape: Shape, bytes: usize, row: usize, column: usize, new: usize) -> usize
-    ensures { result ≡ refusal (write_faults shape bytes row column new) }
+// Checks what a small write of so many new bytes is told.
+pub fn check_write(
+    shape: Shape,
+    bytes: usize,
+    row: usize,
+    column: usize,
+    new: usize,
+) -> Result<(), Refusal>
+    ensures { number result ≡ refusal (write_faults shape bytes row column new) }
 {
-    let refusal = stripe_refusal(shape, bytes);
-    if refusal != 0 {
-        return refusal;
-    }
+    check_stripe(shape, bytes)?;
     if codes::row_count(shape) <= row {
-        return 6;
+        return Err(Refusal::Outside);
     }
     if codes::disk_count(shape) <= column {
-        return 6;
+        return Err(Refusal::Outside);
     }
     if parity_at(shape, row, column) {
-        return 7;
+        return Err(Refusal::ParityCell);
     }
     if new != shape.cell {
-        return 8;
+        return Err(Refusal::NewLength);
     }
-    0
+    Ok(())
 }
 
 // Whether all numbers of a list are below n.
 fn all_below(numbers: &[usize], n: usize) -> bool
     ensures { Says ((k : ℕ) → k < length numbers.now → get_or numbers.now k 0 < n) result }
 {
-    let mut k = 0;
-    while k < numbers.len() {
-        if n <= numbers[k] {
-            return false;
-        }
-        k += 1;
-    }
-    true
+    numbers.iter().all(|number| *number < n)
 }
 
-// The refusal of a rebuild of the cells that a list names: the lowest number that applies, or 0.
-pub fn cells_refusal(shape: Shape, bytes: usize, lost: &[usize]) -> usize
-    ensures { result ≡ refusal (cells_faults shape bytes lost.now) }
+// Checks what a rebuild of the cells that a list names is told.
+pub fn check_cells(shape: Shape, bytes: usize, lost: &[usize]) -> Result<(), Refusal>
+    ensures { number result ≡ refusal (cells_faults shape bytes lost.now) }
 {
-    let refusal = stripe_refusal(shape, bytes);
-    if refusal != 0 {
-        return refusal;
-    }
+    check_stripe(shape, bytes)?;
     if !all_below(lost, codes::cell_count(shape)) {
-        return 6;
+        return Err(Refusal::Outside);
     }
-    0
+    Ok(())
 }
 
-// The refusal of a rebuild of two columns: the lowest number that applies, or 0.
-pub fn columns_refusal(shape: Shape, bytes: usize, a: usize, b: usize) -> usize
-    ensures { result ≡ refusal (columns_faults shape bytes a b) }
+// Checks what a rebuild of two columns is told.
+pub fn check_columns(shape: Shape, bytes: usize, a: usize, b: usize) -> Result<(), Refusal>
+    ensures { number result ≡ refusal (columns_faults shape bytes a b) }
 {
-    let refusal = stripe_refusal(shape, bytes);
-    if refusal != 0 {
-        return refusal;
-    }
+    check_stripe(shape, bytes)?;
     let n = codes::disk_count(shape);
     if n <= a {
-        return 6;
+        return Err(Refusal::Outside);
     }
     if n <= b {
-        return 6;
+        return Err(Refusal::Outside);
     }
-    0
+    Ok(())
 }

@@ -1,6 +1,6 @@
 -- Facts of show: any two answers that its contract allows are the same part of the same buffer, the bytes shown are the cell's, and the part is
 -- empty exactly where the reason is not 0.
-use mathlib.Core.Path.{◌≡◌, refl, sym, ap, ap₂, ◌∙◌}
+use mathlib.Core.Path.{◌≡◌, sym, ap, ap₂, ◌∙◌}
 use mathlib.Core.Logic.{◌≢◌}
 use Prim.Native.Nat.{ℕ, ◌+◌, ◌*◌, ◌≤◌, ◌<◌}
 use native.Mathlib.Omega.{arith}
@@ -12,10 +12,14 @@ use Rattle.codes.specs.Shape.{cell_number}
 use Rattle.codes.specs.Geometry.{column_of}
 use Rattle.codes.specs.Encoded.{byte_at}
 use Rattle.codes.proofs.Geometry.{byte_there}
+use Rattle.std.specs.Prelude.{Option, Result}
+use Rattle.refusals.specs.declared.reason.Refusal.{Refusal}
+use Rattle.refusals.specs.Number.{number_if}
+use Rattle.refusals.proofs.Answer.{same_reason, one_told}
+use Rattle.show.specs.Refusals.{show_faults}
 use Rattle.show.specs.declared.ShownAt.{ShownAt}
-use Rattle.show.specs.declared.ShownAt.TheVariants.{Stripe, Spare, Refused}
 use Rattle.spare.specs.Run.{spare_byte}
-use Rattle.show.specs.Show.{Lent, PartOf, SamePart, reason, shown_place, Shows, shown_number, Shown}
+use Rattle.show.specs.Show.{Lent, PartOf, SamePart, reason, shown_place, Shows, LiesAt, Shown}
 use Rattle.show.proofs.Refused.{show_accepted}
 use Rattle.show.proofs.Showing.{there, in_stripe, in_spare}
 
@@ -43,26 +47,14 @@ module _ (s : Shape) (k done row column : ℕ) (stripe spare : Lent) where
       (λ n. part_one stripe (shown_place s row column) s.cell a b (x.other none n) (y.other none n)))
       (λ n. part_one stripe 0 0 a b (x.refused n) (y.refused n))
 
-  pub reason_one : (a b : ℕ) → a ≡ reason s k done row column stripe spare → b ≡ reason s k done row column stripe spare → a ≡ b
-  reason_one a b x y = x ∙ sym y
+  pub reason_one : (a b : Option Refusal) → number_if a ≡ reason s k done row column stripe spare → number_if b ≡ reason s k done row column stripe spare → a ≡ b
+  reason_one a b x y = same_reason a b (x ∙ sym y)
 
--- an answer that refuses is its number alone
-refused_is : (answer : ShownAt) → shown_number answer ≢ 0 → answer ≡ Refused (shown_number answer)
-refused_is (Stripe at) n = absurd (n refl)
-refused_is (Spare at) n = absurd (n refl)
-refused_is (Refused number) n = refl
-
+-- an answer of the call that says where
 module _ (s : Shape) (bytes spare k done row column : ℕ) where
-  pub shown_one : (a b : ShownAt) → Shown s bytes spare k done row column a → Shown s bytes spare k done row column b → a ≡ b
-  shown_one a b x y =
-      by_equal (shown_number a) 0
-      (λ none. by_equal column k
-      (λ e. x.ready none e ∙ sym (y.ready (sym same ∙ none) e))
-      (λ n. x.other none n ∙ sym (y.other (sym same ∙ none) n)))
-      (λ n. refused_is a n ∙ ap Refused same ∙ sym (refused_is b (λ z. n (same ∙ z))))
-    where
-      same : shown_number a ≡ shown_number b
-      same = x.number ∙ sym y.number
+  pub shown_one : (a b : Result ShownAt Refusal) → Shown s bytes spare k done row column a → Shown s bytes spare k done row column b → a ≡ b
+  shown_one = one_told (show_faults s bytes spare k done row column) (LiesAt s k row column)
+      (λ z a b x y. by_equal column k (λ e. x.ready e ∙ sym (y.ready e)) (λ n. x.other n ∙ sym (y.other n)))
 
 -- ---- what is shown
 

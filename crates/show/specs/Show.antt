@@ -1,12 +1,14 @@
 -- What show promises: document 01, "What each call gives".
-use Rattle.std.specs.Prelude.{◌≡◌, ◌≢◌, List, ℕ, ◌+◌, ◌*◌, length, take, drop}
+use Rattle.std.specs.Prelude.{◌≡◌, ◌≢◌, Result, List, ℕ, ◌+◌, ◌*◌, length, take, drop}
 use Rattle.std.specs.Borrow.{Bor}
 use Rattle.codes.specs.declared.Shape.{Shape}
 use Rattle.codes.specs.Shape.{cell_number}
 use Rattle.codes.specs.Geometry.{column_of, place}
+use Rattle.refusals.specs.declared.reason.Refusal.{Refusal}
 use Rattle.refusals.specs.Refusals.{refusal}
+use Rattle.refusals.specs.Answer.{Tells}
 use Rattle.show.specs.declared.ShownAt.{ShownAt}
-use Rattle.show.specs.declared.ShownAt.TheVariants.{Stripe, Spare, Refused}
+use Rattle.show.specs.declared.ShownAt.TheVariants.{Stripe, Spare}
 use Rattle.show.specs.Refusals.{show_faults}
 
 -- bytes that a caller lent or is lent: a block of memory, the place in it where they start, and the bytes
@@ -38,14 +40,11 @@ pub record Shows (s : Shape) (k done row column : ℕ) (stripe spare answer : Le
   pub other : reason s k done row column stripe spare ≡ 0 → column ≢ k → PartOf stripe (shown_place s row column) s.cell answer
   pub ready : reason s k done row column stripe spare ≡ 0 → column ≡ k → PartOf spare (row * s.cell) s.cell answer
 
--- the refusal number that an answer gives; 0 where it gives a place
-abbrev pub shown_number : ShownAt → ℕ
-shown_number (Stripe at) = 0
-shown_number (Spare at) = 0
-shown_number (Refused number) = number
+-- in which buffer the cell lies, and at which byte of it
+pub record LiesAt (s : Shape) (k row column : ℕ) (at : ShownAt) : Type 0 where
+  pub other : column ≢ k → at ≡ Stripe (shown_place s row column)
+  pub ready : column ≡ k → at ≡ Spare (row * s.cell)
 
--- the answer says in which buffer the cell lies, and at which byte of it, or it gives the refusal
-pub record Shown (s : Shape) (bytes spare k done row column : ℕ) (answer : ShownAt) : Type 0 where
-  pub number : shown_number answer ≡ refusal (show_faults s bytes spare k done row column)
-  pub other : shown_number answer ≡ 0 → column ≢ k → answer ≡ Stripe (shown_place s row column)
-  pub ready : shown_number answer ≡ 0 → column ≡ k → answer ≡ Spare (row * s.cell)
+-- the answer says where the cell lies, or it gives the refusal
+abbrev pub Shown : Shape → ℕ → ℕ → ℕ → ℕ → ℕ → ℕ → Result ShownAt Refusal → Type 0
+Shown s bytes spare k done row column = Tells (show_faults s bytes spare k done row column) (LiesAt s k row column)

@@ -1,65 +1,24 @@
 -- The loops of a turn, one step of each as a law on lists of masks.
 use mathlib.Core.Path.{◌≡◌, refl, sym, ap, ap₂, ◌∙◌, subst}
 use mathlib.Core.Logic.{◌≢◌}
-use mathlib.Core.Bool.{Bool, true, false, cond, not, ◌&&◌, xor, and-true, and-false}
+use mathlib.Core.Bool.{Bool, true, false, cond, ◌&&◌, xor}
 use mathlib.Core.List.{List}
-use Prim.Native.Nat.{ℕ, ◌+◌, ◌-◌, ◌^◌, ◌≤◌, ◌<◌}
+use Prim.Native.Nat.{ℕ, ◌+◌, ◌^◌, ◌≤◌, ◌<◌}
 use native.Mathlib.Omega.{arith}
 use lib.Bits.{bit_xor, bit_and}
 use lib.Dec.{eqb}
 use lib.ListN.{length, get_or, set, length-set}
 use lib.Seq.{get_or-set_same, get_or-set_other}
 use borrow.Author.Tests.{eq-eqb, ne_eqb, lt-ltb, le-ltb}
-use Rattle.xor.proofs.Cases.{by_equal, by_less, and_left, and_both, clash}
-use Rattle.bits.specs.Bit.{bit, IsLowest}
-use Rattle.solve.specs.Masked.{first_cell, starts_at, Holding, added_where, Added, Own}
+use Rattle.xor.proofs.Cases.{by_test, by_equal, by_less, clash}
+use Rattle.std.specs.Prelude.{Some}
+use Rattle.std.proofs.lemmas.List.{get_or_default}
+use Rattle.bits.specs.Bit.{bit, TakesLowest}
+use Rattle.solve.specs.Masked.{Holding, added_where, AddedBy, Added, Own}
+use Rattle.bits.proofs.Finding.{taken_is, left_within, left_without, left_others}
 use Rattle.bits.proofs.Bits.{bit_zero, bit_xor_lem, bit_power}
 use Rattle.bits.proofs.Tests.{add_nothing}
-use Rattle.bits.proofs.Masks.{bit_clear, bit_set, clear_lowest}
-
--- ---- the lowest member t taken out of rest
-module _ (rest t : ℕ) (l : t < 64) (found : IsLowest 64 (λ k. bit k rest) t) where
-  cleared : (r : ℕ) → bit r (bit_and rest (rest - 1)) ≡ (bit r rest && not (eqb r t))
-  cleared = clear_lowest 64 rest t found l
-
-  member : (r : ℕ) → bit r (bit_and rest (rest - 1)) ≡ true → bit r rest ≡ true
-  member r e = and_left (bit r rest) (not (eqb r t)) (sym (cleared r) ∙ e)
-
-  stays : (r : ℕ) → r ≢ t → bit r (bit_and rest (rest - 1)) ≡ bit r rest
-  stays r other = cleared r ∙ ap (λ (b : Bool). bit r rest && not b) (ne_eqb r t other) ∙ and-true (bit r rest)
-
-  gone : (r : ℕ) → r ≡ t → bit r (bit_and rest (rest - 1)) ≡ false
-  gone r same = cleared r ∙ ap₂ (λ (a b : Bool). a && not b) (ap (λ (k : ℕ). bit k rest) same ∙ found.passes l) (eq-eqb r t same)
-
--- ---- the search for an equation: of the unused ones, those that are no more in rest don't start at lost cell number k
-
-pub record Sought (rows : List ℕ) (unused k rest : ℕ) : Type 0 where
-  pub within : (q : ℕ) → bit q rest ≡ true → bit q unused ≡ true
-  pub done : (q : ℕ) → bit q rest ≡ false → starts_at rows unused k q ≡ false
-
-module _ (rows : List ℕ) (unused k : ℕ) where
-  pub sought_none : Sought rows unused k unused
-  sought_none = record { within = λ q e. e; done = λ q e. ap (λ (b : Bool). b && eqb (first_cell (get_or rows q 0)) k) e }
-
-  pub sought_more : (rest t first : ℕ) → t < 64 → IsLowest 64 (λ b. bit b rest) t → first ≡ first_cell (get_or rows t 0) → first ≢ k
-      → Sought rows unused k rest → Sought rows unused k (bit_and rest (rest - 1))
-  sought_more rest t first l found e other h = record {
-    within = λ q p. h.within q (member rest t l found q p);
-    done = λ q p. by_equal q t
-        (λ same. ap (starts_at rows unused k) same ∙ ap (◌&&◌ (bit t unused)) (ne_eqb (first_cell (get_or rows t 0)) k (λ z. other (e ∙ z))) ∙ and-false (bit t unused))
-        (λ differs. h.done q (sym (stays rest t l found q differs) ∙ p));
-  }
-
-  pub sought_found : (rest t first : ℕ) → t < 64 → IsLowest 64 (λ b. bit b rest) t → first ≡ first_cell (get_or rows t 0) → first ≡ k
-      → Sought rows unused k rest → IsLowest 64 (starts_at rows unused k) t
-  sought_found rest t first l found e same h = record {
-    most = omega arith;
-    passes = λ _. and_both (h.within t (found.passes l)) (eq-eqb (first_cell (get_or rows t 0)) k (sym e ∙ same));
-    before = λ q lq. h.done q (found.before q lq);
-  }
-
-  pub sought_all : (rest : ℕ) → rest ≡ 0 → Sought rows unused k rest → IsLowest 64 (starts_at rows unused k) 64
-  sought_all rest e h = record { most = omega arith; passes = λ l. absurd (omega arith); before = λ q l. h.done q (ap (bit q) e ∙ bit_zero q) }
+use Rattle.bits.proofs.Masks.{bit_clear, bit_set}
 
 -- ---- the set of the equations that hold lost cell number k, one equation at a time
 module _ (rows : List ℕ) (k : ℕ) where
@@ -100,50 +59,66 @@ module _ (rows : List ℕ) (k : ℕ) where
   pub holding_all : (m q n : ℕ) → q ≡ n → Holding q rows k m → Holding n rows k m
   holding_all m q n e h = subst (λ (i : ℕ). Holding i rows k m) e h
 
--- ---- the masks of the members: those in rest are still to come
+-- ---- the values of the members: those in rest are still to come
 
-pub record AddedTo (old : List ℕ) (members more : ℕ) (new : List ℕ) (rest : ℕ) : Type 0 where
-  pub long : length new ≡ 64
+pub record AddedTo {T : Type 0} (gives : T → T → T → Type 0) (old : List T) (members : ℕ) (more : T) (new : List T) (rest : ℕ) : Type 0 where
+  pub long : length new ≡ length old
   pub within : (r : ℕ) → bit r rest ≡ true → bit r members ≡ true
-  pub done : (r : ℕ) → r < 64 → bit r rest ≡ false → get_or new r 0 ≡ added_where members r (get_or old r 0) more
-  pub kept : (r : ℕ) → bit r rest ≡ true → get_or new r 0 ≡ get_or old r 0
+  pub put : (r : ℕ) (d : T) → r < length old → bit r members ≡ true → bit r rest ≡ false → gives (get_or old r d) more (get_or new r d)
+  pub coming : (r : ℕ) (d : T) → r < length old → bit r rest ≡ true → get_or new r d ≡ get_or old r d
+  pub kept : (r : ℕ) (d : T) → r < length old → bit r members ≡ false → get_or new r d ≡ get_or old r d
 
-module _ (old : List ℕ) (members more : ℕ) where
-  pub added_none : length old ≡ 64 → AddedTo old members more old members
-  added_none long = record { long = long; within = λ r e. e; done = λ r l e. rw e refl; kept = λ r e. refl }
+module _ {T : Type 0} (gives : T → T → T → Type 0) (old : List T) (members : ℕ) (more : T) where
+  pub added_none : (rest : ℕ) → rest ≡ members → AddedTo gives old members more old rest
+  added_none rest e = record {
+    long = refl;
+    within = λ r p. ap (bit r) (sym e) ∙ p;
+    put = λ r d l p q. clash p (ap (bit r) (sym e) ∙ q);
+    coming = λ r d l p. refl;
+    kept = λ r d l p. refl;
+  }
 
-  pub added_more : (new : List ℕ) (rest t : ℕ) → t < 64 → IsLowest 64 (λ k. bit k rest) t → AddedTo old members more new rest
-      → AddedTo old members more (set new t (bit_xor (get_or new t 0) more)) (bit_and rest (rest - 1))
-  added_more new rest t l found h = record {
+  pub added_more : (new : List T) (rest t left : ℕ) (v x : T) → TakesLowest rest (Some t) left → t < length old → v ≡ get_or new t v → gives v more x
+      → AddedTo gives old members more new rest → AddedTo gives old members more (set new t x) left
+  added_more new rest t left v x took l is gave h = record {
     long = length-set new t x ∙ h.long;
-    within = λ r e. h.within r (member rest t l found r e);
-    done = λ r lr e. by_equal r t
-        (λ same. ap (λ (k : ℕ). get_or (set new t x) k 0) same ∙ get_or-set_same new t x 0 (omega (arith, h.long)) ∙ own ∙ ap (λ (k : ℕ). added_where members k (get_or old k 0) more) (sym same))
-        (λ other. get_or-set_other new t r x 0 other ∙ h.done r lr (sym (stays rest t l found r other) ∙ e));
-    kept = λ r e. get_or-set_other new t r x 0 (λ same. clash e (gone rest t l found r same)) ∙ h.kept r (member rest t l found r e);
+    within = λ r p. h.within r (left_within rest t left took r p);
+    put = λ r d lr p q. by_equal r t
+        (λ same. subst (λ (k : ℕ). gives (get_or old k d) more (get_or (set new t x) k d)) (sym same)
+        (subst (λ (y : T). gives y more (get_or (set new t x) t d)) (is ∙ get_or_default new t v d inside ∙ h.coming t d l here)
+        (subst (λ (y : T). gives v more y) (sym (get_or-set_same new t x d inside)) gave)))
+        (λ other. subst (λ (y : T). gives (get_or old r d) more y) (sym (get_or-set_other new t r x d other))
+        (h.put r d lr p (sym (left_others rest t left took r other) ∙ q)));
+    coming = λ r d lr p. get_or-set_other new t r x d (λ same. clash p (left_without rest t left took r same)) ∙ h.coming r d lr (left_within rest t left took r p);
+    kept = λ r d lr p. get_or-set_other new t r x d (λ same. clash (ap (λ (k : ℕ). bit k members) same ∙ h.within t here) p) ∙ h.kept r d lr p;
   }
     where
-      x : ℕ
-      x = bit_xor (get_or new t 0) more
+      here : bit t rest ≡ true
+      here = taken_is rest t left took
 
-      own : x ≡ added_where members t (get_or old t 0) more
-      own = ap (λ (m : ℕ). bit_xor m more) (h.kept t (found.passes l)) ∙ sym (ap (λ (b : Bool). cond b (bit_xor (get_or old t 0) more) (get_or old t 0)) (h.within t (found.passes l)))
+      inside : t < length new
+      inside = omega (arith, h.long)
 
-  pub added_all : (new : List ℕ) (rest : ℕ) → rest ≡ 0 → AddedTo old members more new rest → Added old members more new
-  added_all new rest e h = record { long = h.long; mask = λ r l. h.done r l (ap (bit r) e ∙ bit_zero r) }
+  pub added_all : (new : List T) (rest : ℕ) → rest ≡ 0 → AddedTo gives old members more new rest → AddedBy gives old members more new
+  added_all new rest e h = record { long = h.long; put = λ r d l p. h.put r d l p (ap (bit r) e ∙ bit_zero r); kept = h.kept }
+
+-- what it comes to in masks
+pub added_mask : (old : List ℕ) (members more : ℕ) (new : List ℕ) → Added old members more new → (r : ℕ) → r < length old → get_or new r 0 ≡ added_where members r (get_or old r 0) more
+added_mask old members more new h r l =
+    by_test (bit r members) (λ p. h.put r 0 l p ∙ sym (ap (λ (b : Bool). cond b (bit_xor (get_or old r 0) more) (get_or old r 0)) p))
+    (λ p. h.kept r 0 l p ∙ sym (ap (λ (b : Bool). cond b (bit_xor (get_or old r 0) more) (get_or old r 0)) p))
 
 -- ---- the first sources
 
-pub own_none : (masks : List ℕ) → length masks ≡ 64 → Own 0 masks
-own_none masks long = record { long = long; mask = λ q l. absurd (omega arith) }
+pub own_none : (masks : List ℕ) → Own 0 masks
+own_none masks = record { mask = λ q l. absurd (omega arith) }
 
-pub own_more : (masks : List ℕ) (q x : ℕ) → q < 64 → x ≡ 2 ^ q → Own q masks → Own (q + 1) (set masks q x)
+pub own_more : (masks : List ℕ) (q x : ℕ) → q < length masks → x ≡ 2 ^ q → Own q masks → Own (q + 1) (set masks q x)
 own_more masks q x l e h = record {
-  long = length-set masks q x ∙ h.long;
   mask = λ r lr. by_equal r q
-      (λ same. ap (λ (k : ℕ). get_or (set masks q x) k 0) same ∙ get_or-set_same masks q x 0 (omega (arith, h.long)) ∙ e ∙ ap (λ (k : ℕ). 2 ^ k) (sym same))
+      (λ same. ap (λ (k : ℕ). get_or (set masks q x) k 0) same ∙ get_or-set_same masks q x 0 l ∙ e ∙ ap (λ (k : ℕ). 2 ^ k) (sym same))
       (λ other. get_or-set_other masks q r x 0 other ∙ h.mask r (omega arith));
 }
 
 pub own_all : (masks : List ℕ) (q n : ℕ) → n ≤ q → Own q masks → Own n masks
-own_all masks q n l h = record { long = h.long; mask = λ r lr. h.mask r (omega arith) }
+own_all masks q n l h = record { mask = λ r lr. h.mask r (omega arith) }

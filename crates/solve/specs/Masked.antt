@@ -1,9 +1,7 @@
 -- The method's state in masks: for each equation the lost cells that it holds, by their number in rising order, and the original
 -- equations that it is the sum of; and the unused equations.
-use Rattle.std.specs.Prelude.{◌≡◌, List, Bool, true, cond, not, ◌&&◌, ℕ, ◌^◌, ◌<◌, eqb, ltb, length, get_or}
+use Rattle.std.specs.Prelude.{◌≡◌, List, Bool, true, false, cond, not, ◌&&◌, Option, MatchOption, ℕ, ◌^◌, ◌<◌, eqb, ltb, length, get_or}
 use Rattle.std.specs.Int.Bits.{bit_xor}
-use Rattle.solve.specs.declared.Eliminated.{Eliminated}
-use Rattle.solve.specs.declared.Eliminated.TheVariants.{Passed, Stopped}
 use Rattle.bits.specs.Bit.{bit, lowest}
 use Rattle.elimination.specs.Method.{State, Outcome, passed, stopped, run}
 
@@ -15,7 +13,7 @@ pub record Sources (E : ℕ) (s : State) (q m : ℕ) : Type 0 where
 pub record Unused (E : ℕ) (s : State) (m : ℕ) : Type 0 where
   pub bits : (r : ℕ) → bit r m ≡ (ltb r E && not (s.used r))
 
--- ---- the steps of a turn, on lists of 64 masks
+-- ---- the steps of a turn, on a list of the equations' masks
 
 -- an equation's first unsolved cell: the lowest of the lost cells in its mask; 64 where it has none
 abbrev pub first_cell : ℕ → ℕ
@@ -33,14 +31,18 @@ pub record Holding (E : ℕ) (rows : List ℕ) (k m : ℕ) : Type 0 where
 abbrev pub added_where : ℕ → ℕ → ℕ → ℕ → ℕ
 added_where test q m more = cond (bit q test) (bit_xor m more) m
 
+-- new is old with `more` put to the value of each member of a set, as `gives` says
+pub record AddedBy {T : Type 0} (gives : T → T → T → Type 0) (old : List T) (members : ℕ) (more : T) (new : List T) : Type 0 where
+  pub long : length new ≡ length old
+  pub put : (r : ℕ) (d : T) → r < length old → bit r members ≡ true → gives (get_or old r d) more (get_or new r d)
+  pub kept : (r : ℕ) (d : T) → r < length old → bit r members ≡ false → get_or new r d ≡ get_or old r d
+
 -- new is old with `more` added to the mask of each member of a set
-pub record Added (old : List ℕ) (members more : ℕ) (new : List ℕ) : Type 0 where
-  pub long : length new ≡ 64
-  pub mask : (r : ℕ) → r < 64 → get_or new r 0 ≡ added_where members r (get_or old r 0) more
+abbrev pub Added : List ℕ → ℕ → ℕ → List ℕ → Type 0
+Added = AddedBy (λ x y z. z ≡ bit_xor x y)
 
 -- each of the first E masks has its own number alone
 pub record Own (E : ℕ) (masks : List ℕ) : Type 0 where
-  pub long : length masks ≡ 64
   pub mask : (q : ℕ) → q < E → get_or masks q 0 ≡ 2 ^ q
 
 -- ---- the whole elimination
@@ -72,12 +74,10 @@ pub record Masked (E u : ℕ) (cell : ℕ → ℕ) (s : State) (sources chosen :
   pub free : Unused E s unused
 
 -- what an answer says of a problem: the method passed all cells, and what is lent holds its state; or it stopped
-abbrev pub Answers : (E u : ℕ) (masks sources chosen : List ℕ) → Problem E u masks → Eliminated → Type 0
-Answers E u masks sources chosen p (Passed unused) = (s : State) × (outcome E u masks p ≡ passed s) × Masked E u p.cell s sources chosen unused
-Answers E u masks sources chosen p Stopped = (c : ℕ) × (s : State) × (outcome E u masks p ≡ stopped c s)
+abbrev pub Answers : (E u : ℕ) (masks sources chosen : List ℕ) → Problem E u masks → Option ℕ → Type 0
+Answers E u masks sources chosen p answer = MatchOption answer ((c : ℕ) × (s : State) × (outcome E u masks p ≡ stopped c s))
+    (λ unused. (s : State) × (outcome E u masks p ≡ passed s) × Masked E u p.cell s sources chosen unused)
 
 -- the answer is right on every problem with these masks
-pub record Eliminates (E u : ℕ) (masks sources chosen : List ℕ) (answer : Eliminated) : Type 0 where
-  pub long_sources : length sources ≡ 64
-  pub long_chosen : length chosen ≡ 64
+pub record Eliminates (E u : ℕ) (masks sources chosen : List ℕ) (answer : Option ℕ) : Type 0 where
   pub answers : (p : Problem E u masks) → Answers E u masks sources chosen p answer

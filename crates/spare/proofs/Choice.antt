@@ -1,54 +1,33 @@
--- The equation by which a plan takes a row: as the code works it out, and that it holds the row's cell of the lost column.
-use mathlib.Core.Path.{◌≡◌, refl, sym, ap, ◌∙◌}
-use mathlib.Core.Bool.{true, false}
-use Prim.Native.Nat.{ℕ, ◌+◌, ◌%◌, ◌<◌}
-use native.Mathlib.Nat.{mod-eq_of_lt, add-mod_right}
+-- The equation by which a plan takes a row holds the row's cell of the lost column.
+use Prim.Native.Nat.{ℕ, ◌<◌}
 use native.Mathlib.Omega.{arith}
-use Rattle.xor.proofs.Cases.{by_test, by_equal}
+use Rattle.xor.proofs.Cases.{by_test}
 use Rattle.bits.specs.Bit.{bit}
 use Rattle.codes.specs.declared.Shape.{Shape}
-use Rattle.codes.specs.Shape.{rows, equations, cell_number}
+use Rattle.codes.specs.Shape.{equations, cell_number}
 use Rattle.codes.proofs.Positions.{cell_inside, rdp_n}
-use Rattle.plan.specs.Plan.{diagonal, chosen}
+use Rattle.plan.specs.Plan.{chosen}
 use Rattle.plan.specs.Right.{RdpColumn}
 use Rattle.spare.specs.Places.{RowRight}
-use Rattle.plan.proofs.Column.{last_row, last_column}
-use Rattle.plan.proofs.Diagonals.{diagonal_last, diagonal_below}
+use Rattle.plan.proofs.Chosen.{by_row, by_diagonal}
+use Rattle.plan.proofs.Column.{last_row}
 use Rattle.plan.proofs.Cells.{taken_low, own_held}
 use Rattle.spare.proofs.Slots.{Held}
 
--- the diagonal, as the code works it out: column p is no further on than column 0
-pub diagonal_is : (s : Shape) (k i : ℕ) → RdpColumn s k → i < rows s → (i + k) % s.p ≡ diagonal s k i
-diagonal_is s k i of li =
-    by_equal k s.p
-    (λ e. ap (λ (x : ℕ). (i + x) % s.p) e ∙ add-mod_right i s.p ∙ mod-eq_of_lt (omega (arith, last_row s k of)) ∙ sym (diagonal_last s k i e))
-    (λ n. sym (diagonal_below s k i (omega (arith, last_column s k of))))
+module _ (s : Shape) (k plan i : ℕ) (right : RowRight s k plan i) where
+  of : RdpColumn s k
+  of = right.of
 
-module _ (s : Shape) (k plan i : ℕ) where
-  pub by_row : bit i plan ≡ false → chosen s k plan i ≡ i
-  unfolding chosen
-  by_row p = rw p refl
+  inside : chosen s k plan i < equations s
+  inside =
+      by_test (bit i plan)
+      (λ p. omega (arith, by_diagonal s k plan i p, taken_low s k plan of right.accepted i right.row p, last_row s k of, rdp_n s of.formed of.rdp))
+      (λ p. omega (arith, by_row s k plan i p, right.row, last_row s k of, rdp_n s of.formed of.rdp))
 
-  pub by_diagonal : bit i plan ≡ true → chosen s k plan i ≡ rows s + diagonal s k i
-  unfolding chosen
-  by_diagonal p = rw p refl
-
-  -- ---- the row's cell of the lost column is one of the equation's
-
-  module _ (right : RowRight s k plan i) where
-    of : RdpColumn s k
-    of = right.of
-
-    inside : chosen s k plan i < equations s
-    inside =
-        by_test (bit i plan)
-        (λ p. omega (arith, by_diagonal p, taken_low s k plan of right.accepted i right.row p, last_row s k of, rdp_n s of.formed of.rdp))
-        (λ p. omega (arith, by_row p, right.row, last_row s k of, rdp_n s of.formed of.rdp))
-
-    pub chosen_held : Held s (chosen s k plan i) (cell_number s i k)
-    chosen_held = record {
-      formed = of.formed;
-      equation = inside;
-      cell = cell_inside s of.formed i k right.row of.column;
-      held = own_held s k plan of right.accepted i right.row;
-    }
+  pub chosen_held : Held s (chosen s k plan i) (cell_number s i k)
+  chosen_held = record {
+    formed = of.formed;
+    equation = inside;
+    cell = cell_inside s of.formed i k right.row of.column;
+    held = own_held s k plan of right.accepted i right.row;
+  }

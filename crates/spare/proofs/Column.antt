@@ -1,6 +1,7 @@
 -- The spare: one column, row after row. Where its rows end, and spares that agree in all of them.
 use mathlib.Core.Path.{◌≡◌, refl, sym, ap, ◌∙◌, subst}
 use mathlib.Core.List.{List}
+use mathlib.Core.Bool.{true}
 use Prim.Native.Nat.{ℕ, ◌+◌, ◌*◌, ◌/◌, ◌%◌, ◌≤◌, ◌<◌}
 use native.Mathlib.Nat.{mul-le-mul, mul-le-mul_right, add-mul, one-mul, mod-lt, div-lt_iff_lt-mul, div-add-mod'}
 use native.Mathlib.Omega.{arith}
@@ -9,6 +10,9 @@ use lib.Seq.{ext_get_or}
 use Rattle.codes.specs.declared.Shape.{Shape}
 use Rattle.codes.specs.Shape.{rows, WellFormed}
 use Rattle.codes.proofs.Shapes.{rows_high}
+use Rattle.plan.specs.Plan.{is_accepted}
+use Rattle.plan.specs.Right.{RdpColumn}
+use Rattle.spare.specs.Places.{RowRight}
 use Rattle.spare.specs.Run.{spare_byte}
 
 -- its length is small
@@ -32,3 +36,7 @@ same_rows s w a b la lb h =
   where
     byte_is : (x : List ℕ) (i : ℕ) → get_or x i 0 ≡ get_or x (i / s.cell * s.cell + i % s.cell) 0
     byte_is x i = ap (λ (k : ℕ). get_or x k 0) (sym (div-add-mod' i s.cell))
+
+-- row i of a lost column, by an accepted plan
+pub row_right : {s : Shape} {k plan i : ℕ} → RdpColumn s k → is_accepted s k plan ≡ true → i < rows s → RowRight s k plan i
+row_right of accepted row = record { of = of; accepted = accepted; row = row }

@@ -17,7 +17,7 @@ use Rattle.xor.specs.Sets.{count}
 use Rattle.xor.proofs.Cases.{by_less, clash, and_left, and_right, and_both, either, not_passed, same_test}
 use Rattle.xor.proofs.Sets.{count_same, count_never, count_all, count_parts, count_lowest}
 use Rattle.codes.specs.declared.Shape.{Shape}
-use Rattle.codes.specs.declared.Counted.TheVariants.{Count}
+use Rattle.std.specs.Prelude.{Ok}
 use Rattle.codes.specs.Shape.{rows, cell_number, stripe_length, WellFormed}
 use Rattle.codes.specs.Geometry.{cell_there, column_of, cell_at, place}
 use Rattle.codes.specs.Agree.{Agree, in_columns, callers_columns}
@@ -178,7 +178,7 @@ rows_taken n first budget l =
         (λ p. and_both (le-leb first (first + i) (omega arith)) (lt-ltb (first + i) (first + budget) (let l = ltb-true i budget p in omega arith)))
 
 -- rows rebuilt: those that the run takes
-pub run_counts : (s : Shape) (k plan first budget : ℕ) (stripe old new : List ℕ) (n : ℕ) → RunsByPlan s k plan first budget stripe old new (Count n)
+pub run_counts : (s : Shape) (k plan first budget : ℕ) (stripe old new : List ℕ) (n : ℕ) → RunsByPlan s k plan first budget stripe old new (Ok n)
     → n ≡ count (rows s) (takes_row first budget)
 unfolding rows_run
 run_counts s k plan first budget stripe old new n h =

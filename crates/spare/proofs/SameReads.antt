@@ -12,8 +12,8 @@ use Rattle.xor.proofs.Cases.{by_test, by_less, and_both}
 use Rattle.xor.proofs.Sums.{xors_same}
 use Rattle.xor.proofs.Sets.{any_at}
 use Rattle.codes.specs.declared.Shape.{Shape}
-use Rattle.codes.specs.declared.Counted.{Counted}
-use Rattle.codes.specs.declared.Counted.TheVariants.{Count}
+use Rattle.std.specs.Prelude.{Result, Ok}
+use Rattle.refusals.specs.declared.reason.Refusal.{Refusal}
 use Rattle.codes.specs.Shape.{rows, cells, cell_number, WellFormed}
 use Rattle.codes.specs.Geometry.{cell_there, column_of}
 use Rattle.codes.specs.Agree.{Agree}
@@ -60,7 +60,7 @@ rows_same s w k plan first n stripe stripe' old x y agree whole hx hy =
 
 module _ (s : Shape) (k plan first budget : ℕ) where
   -- two stripes that agree on the cells the plan reads, run with equal numbers from equal spares: the same answer and the same spare
-  pub same_reads : (stripe stripe' old : List ℕ) (x y : List ℕ) (a b : Counted) → length stripe ≡ length stripe' → Agree s (unread s (column_of s k) plan) stripe stripe'
+  pub same_reads : (stripe stripe' old : List ℕ) (x y : List ℕ) (a b : Result ℕ Refusal) → length stripe ≡ length stripe' → Agree s (unread s (column_of s k) plan) stripe stripe'
       → RunsByPlan s k plan first budget stripe old x a → RunsByPlan s k plan first budget stripe' old y b → (a ≡ b) × (x ≡ y)
   same_reads stripe stripe' old x y a b long agree =
       one_answer (run_faults s (length stripe) (length old) k plan first) (run_faults s (length stripe') (length old) k plan first) old x y (done stripe x) (done stripe' y)
@@ -75,11 +75,11 @@ module _ (s : Shape) (k plan first budget : ℕ) where
 
   module _ (stripe old : List ℕ) where
     -- any two results that the contract allows are equal
-    pub run_one : (x y : List ℕ) (a b : Counted) → RunsByPlan s k plan first budget stripe old x a → RunsByPlan s k plan first budget stripe old y b → (a ≡ b) × (x ≡ y)
+    pub run_one : (x y : List ℕ) (a b : Result ℕ Refusal) → RunsByPlan s k plan first budget stripe old x a → RunsByPlan s k plan first budget stripe old y b → (a ≡ b) × (x ≡ y)
     run_one x y a b = same_reads stripe stripe old x y a b refl (record { same = λ c lc p t lt. refl })
 
     -- a run with budget 0, or from past the last row, rebuilds nothing
-    pub run_nothing : (budget ≡ 0) ⊎ (first ≡ s.p - 1) → (n : ℕ) (x : List ℕ) → RunsByPlan s k plan first budget stripe old x (Count n) → (n ≡ 0) × (x ≡ old)
+    pub run_nothing : (budget ≡ 0) ⊎ (first ≡ s.p - 1) → (n : ℕ) (x : List ℕ) → RunsByPlan s k plan first budget stripe old x (Ok n) → (n ≡ 0) × (x ≡ old)
     unfolding rows_run
     run_nothing side n x h =
         let right = run_accepted s (length stripe) (length old) k plan first (sym h.0) in

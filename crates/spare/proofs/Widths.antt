@@ -1,13 +1,13 @@
 -- A shape none of whose data columns is missing, and the same with no number of them given: rows are rebuilt alike.
 use mathlib.Core.Path.{◌≡◌, refl, sym, ap, ap₂, ◌∙◌}
 use mathlib.Core.List.{List}
-use mathlib.Core.Bool.{Bool, cond, not, ◌&&◌}
-use Prim.Native.Nat.{ℕ, ◌+◌, ◌-◌, ◌*◌, ◌/◌, ◌%◌, ◌≤◌}
+use mathlib.Core.Bool.{Bool, true, cond, not, ◌&&◌}
+use Prim.Native.Nat.{ℕ, ◌+◌, ◌-◌, ◌*◌, ◌/◌, ◌%◌}
 use lib.Dec.{eqb}
 use lib.ListN.{get_or}
+use Rattle.std.specs.declared.option.Option.TheVariants.{None}
 use Rattle.xor.proofs.Sums.{xors_same}
 use Rattle.codes.specs.declared.Shape.{Shape}
-use Rattle.codes.specs.declared.Width.TheVariants.{Full}
 use Rattle.codes.specs.Shape.{rows, columns, cells, missing, disks, existing, stripe_length, cell_number, WellFormed}
 use Rattle.codes.specs.Equations.{equation}
 use Rattle.codes.specs.Geometry.{cell_there, callers_cell, place}
@@ -16,40 +16,36 @@ use Rattle.codes.specs.Holders.{holds}
 use Rattle.codes.proofs.Geometry.{there_all, lies_all}
 use Rattle.plan.specs.Plan.{diagonal, chosen, is_accepted}
 use Rattle.plan.specs.Right.{RdpColumn}
-use Rattle.spare.specs.Right.{RunRight}
+use Rattle.spare.specs.Right.{RowsFit}
 use Rattle.spare.specs.Run.{others, rebuilt_byte, spare_byte, RowsRebuilt}
 
 -- no number of data columns is given
 abbrev pub widened : Shape → Shape
-widened s = record { code = s.code; p = s.p; cell = s.cell; width = Full }
+widened s = record { code = s.code; p = s.p; cell = s.cell; width = None }
 
 pub none_given : (s : Shape) → missing (widened s) ≡ 0
 unfolding missing
 none_given s = refl
 
-pub few : (s : Shape) (n : ℕ) → n ≤ rows s → n ≤ rows (widened s)
-unfolding rows
-few s n l = l
-
 module _ (s : Shape) (full : missing s ≡ 0) where
   formed : WellFormed s → WellFormed (widened s)
   formed w = record { code_low = w.code_low; code_high = w.code_high; prime = w.prime; cell_low = w.cell_low; cell_high = w.cell_high; wide = refl }
 
-  column : (k : ℕ) → RdpColumn s k → RdpColumn (widened s) k
+  pub column_widened : (k : ℕ) → RdpColumn s k → RdpColumn (widened s) k
   unfolding columns
-  column k of = record { formed = formed of.formed; rdp = of.rdp; column = of.column; there = there_all (widened s) (none_given s) k }
+  column_widened k of = record { formed = formed of.formed; rdp = of.rdp; column = of.column; there = there_all (widened s) (none_given s) k }
 
   as_long : stripe_length s ≡ stripe_length (widened s)
   unfolding stripe_length existing rows columns missing disks
   as_long = ap (λ (m : ℕ). (columns s - m) * rows s * s.cell) full
 
-  pub run_widened : (bytes spare k plan first : ℕ) → RunRight s bytes spare k plan first → RunRight (widened s) bytes spare k plan first
+  pub plan_widened : (k plan : ℕ) → is_accepted s k plan ≡ true → is_accepted (widened s) k plan ≡ true
   unfolding rows is_accepted
-  run_widened bytes spare k plan first h = record {
-    buffers = record { of = column k h.buffers.of; long = h.buffers.long ∙ as_long; whole = h.buffers.whole };
-    accepted = h.accepted;
-    start = h.start;
-  }
+  plan_widened k plan h = h
+
+  pub fit_widened : (bytes spare first n : ℕ) → RowsFit s bytes spare first n → RowsFit (widened s) bytes spare first n
+  unfolding rows
+  fit_widened bytes spare first n h = record { long = h.long ∙ as_long; whole = h.whole; inside = h.inside }
 
   same_place : (c : ℕ) → place s c ≡ place (widened s) c
   unfolding place callers_cell cell_number rows

@@ -26,7 +26,8 @@ use Rattle.plan.proofs.Diagonals.{home, home_back, diagonal_back, diagonal_below
 use Rattle.plan.proofs.Accepted.{every_row}
 use Rattle.plan.proofs.Cells.{taken_low}
 use Rattle.spare.specs.Places.{starts, LevelPlaces, in_slot, SlantPlaces, RowRight, OthersAt, Aimed}
-use Rattle.spare.proofs.Choice.{by_row, by_diagonal, chosen_held}
+use Rattle.plan.proofs.Chosen.{by_row, by_diagonal}
+use Rattle.spare.proofs.Choice.{chosen_held}
 use Rattle.spare.proofs.Leads.{OnDiagonal, slot_column, row_low}
 use Rattle.spare.proofs.Slots.{Held, others_kept, others_swapped}
 use Rattle.spare.proofs.Tables.{Swapped}

@@ -79,9 +79,9 @@ pub record Aimed (s : Shape) (k plan i : ℕ) (w : Window) (places : List ℕ) :
   pub slant : SlantPlaces s k places
   pub cells : OthersAt s (chosen s k plan i) (cell_number s i k) (w.ahead * s.cell) (seen s w places)
 
--- such a row, from a stripe of so many bytes all of whose columns exist, with where the cells start listed, and so many bytes of the spare for it
-pub record RowReady (s : Shape) (bytes lead k plan i : ℕ) (places : List ℕ) (part : ℕ) : Type 0 where
-  pub right : RowRight s k plan i
+-- row i of column k, from a stripe of so many bytes all of whose columns exist, with where the cells start listed, and so many bytes of the spare for it
+pub record RowReady (s : Shape) (bytes lead k i : ℕ) (places : List ℕ) (part : ℕ) : Type 0 where
+  pub row : i < rows s
   pub full : missing s ≡ 0
   pub leads : lead ≡ leader s
   pub long : bytes ≡ stripe_length s

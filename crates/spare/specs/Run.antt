@@ -1,8 +1,8 @@
 -- What a run by plan promises: document 01, "What each call gives".
-use Rattle.std.specs.Prelude.{◌≡◌, ◌⊎◌, List, Bool, cond, not, ◌&&◌, ℕ, ◌+◌, ◌-◌, ◌*◌, ◌≤◌, ◌<◌, min, eqb, leb, ltb, length, get_or}
+use Rattle.std.specs.Prelude.{◌≡◌, Result, ◌⊎◌, List, Bool, cond, not, ◌&&◌, ℕ, ◌+◌, ◌-◌, ◌*◌, ◌≤◌, ◌<◌, min, eqb, leb, ltb, length, get_or}
 use Rattle.xor.specs.Xor.{xors}
 use Rattle.codes.specs.declared.Shape.{Shape}
-use Rattle.codes.specs.declared.Counted.{Counted}
+use Rattle.refusals.specs.declared.reason.Refusal.{Refusal}
 use Rattle.codes.specs.Shape.{rows, cells, cell_number}
 use Rattle.codes.specs.Geometry.{column_of}
 use Rattle.codes.specs.Encoded.{byte_at}
@@ -38,7 +38,7 @@ unfoldable pub rows_run : Shape → ℕ → ℕ → ℕ
 rows_run s first budget = min budget (rows s - first)
 
 -- a run rebuilds so many rows of the column at place k from the first on and reports how many, or it answers the refusal and leaves every byte
-abbrev pub RunsByPlan : Shape → ℕ → ℕ → ℕ → ℕ → List ℕ → List ℕ → List ℕ → Counted → Type 0
+abbrev pub RunsByPlan : Shape → ℕ → ℕ → ℕ → ℕ → List ℕ → List ℕ → List ℕ → Result ℕ Refusal → Type 0
 RunsByPlan s k plan first budget stripe old new =
     Answers (run_faults s (length stripe) (length old) k plan first) old new
     (λ n. (n ≡ rows_run s first budget) × RowsRebuilt s (column_of s k) plan first (rows_run s first budget) stripe old new)

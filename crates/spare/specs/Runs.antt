@@ -1,7 +1,6 @@
 -- Runs by plan one after the other, of one lost column: each with its own stripe, plan, first row and budget.
-use Rattle.std.specs.Prelude.{◌≡◌, List, [], ◌∷◌, Bool, false, ◌||◌, ℕ}
+use Rattle.std.specs.Prelude.{Ok, ◌≡◌, List, [], ◌∷◌, Bool, false, ◌||◌, ℕ}
 use Rattle.codes.specs.declared.Shape.{Shape}
-use Rattle.codes.specs.declared.Counted.TheVariants.{Count}
 use Rattle.codes.specs.Agree.{Agree, callers_columns}
 use Rattle.spare.specs.Run.{takes_row, RunsByPlan}
 
@@ -15,7 +14,7 @@ pub record Turn : Type 0 where
 -- one run that was not refused
 pub record Ran (s : Shape) (k : ℕ) (turn : Turn) (old new : List ℕ) : Type 0 where
   pub count : ℕ
-  pub runs : RunsByPlan s k turn.plan turn.first turn.budget turn.stripe old new (Count count)
+  pub runs : RunsByPlan s k turn.plan turn.first turn.budget turn.stripe old new (Ok count)
 
 -- the runs of a list, one after the other: each starts from the spare that the one before it left
 abbrev pub Runs : Shape → ℕ → List Turn → List ℕ → List ℕ → Type 0

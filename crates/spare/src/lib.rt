@@ -1,22 +1,25 @@
 // RDP with one lost column: the rebuild by plan into a spare column.
-// Each call takes any numbers and any bytes: what can't be done is refused by its number, with every byte as it was. Callers number columns as
+// Each call takes any numbers and any bytes: what can't be done is refused, with every byte as it was. Callers number columns as
 // they lie in the stripe; past the refusals column k is as the equations number it.
 #![tactic(auto)]
 
 ghost use Rattle.std.specs.Prelude.{◌≡◌, ◌+◌, ◌-◌, ◌*◌, ◌≤◌, ◌<◌, min, length};
 ghost use Rattle.codes.specs.Shape.{rows, missing, WellFormed};
+ghost use Rattle.refusals.specs.Number.{number};
 ghost use Rattle.refusals.specs.Refusals.{refusal};
 ghost use Rattle.plan.specs.Right.{RdpColumn};
 ghost use Rattle.spare.specs.Refusals.{spare_faults, run_faults};
-ghost use Rattle.spare.specs.Right.{RunRight};
-ghost use Rattle.spare.specs.Places.{LevelPlaces, leader, ColumnPut, SlantPlaces, RowRight, Aimed, RowReady, RowDone};
+ghost use Rattle.spare.specs.Right.{RowsFit};
+ghost use Rattle.spare.specs.Places.{LevelPlaces, leader, ColumnPut, SlantPlaces, Aimed, RowReady, RowDone};
 ghost use Rattle.spare.specs.Run.{RowsRebuilt, RunsByPlan};
 
-use codes::{Counted, Shape, Width};
+use codes::Shape;
+use plan::LostColumn;
+use refusals::Refusal;
 
 mod short;
 
-pub use plan::{PlanAnswer, ReadPlan, plan};
+pub use plan::{ReadPlan, plan};
 
 // Where the cells start from which rows are rebuilt is listed for all rows at once: slots 0 to 63 for rows that are taken by diagonal, two for each
 // column; slots from this on for those that are taken by row, one for each column.
@@ -32,41 +35,42 @@ struct Window {
     ahead: usize,
 }
 
-// The refusal of a call on a lent stripe and a lent spare of so many bytes: the lowest number that applies, or 0.
-pub fn spare_refusal(shape: Shape, bytes: usize, spare: usize) -> usize
-    ensures { result ≡ refusal (spare_faults shape bytes spare) }
+// Checks what every call on a lent stripe and a lent spare of so many bytes is told.
+pub fn check_spare(shape: Shape, bytes: usize, spare: usize) -> Result<(), Refusal>
+    ensures { number result ≡ refusal (spare_faults shape bytes spare) }
 {
-    let refusal = plan::rdp_refusal(shape);
-    if refusal != 0 {
-        return refusal;
-    }
+    plan::check_rdp(shape)?;
     if bytes != codes::stripe_bytes(shape) {
-        return 5;
+        return Err(Refusal::Length);
     }
     if spare != codes::row_count(shape) * shape.cell {
-        return 5;
+        return Err(Refusal::Length);
     }
-    0
+    Ok(())
 }
 
-// The refusal of a run for the column at place k by a plan from a first row on: the lowest number that applies, or 0.
-fn run_refusal(shape: Shape, bytes: usize, spare: usize, k: usize, plan: u64, first: usize) -> usize
-    ensures { result ≡ refusal (run_faults shape bytes spare k plan first) }
+// Checks what a run for the column at place k by a plan from a first row on is told.
+fn check_run(
+    shape: Shape,
+    bytes: usize,
+    spare: usize,
+    k: usize,
+    plan: u64,
+    first: usize,
+) -> Result<(), Refusal>
+    ensures { number result ≡ refusal (run_faults shape bytes spare k plan first) }
 {
-    let refusal = spare_refusal(shape, bytes, spare);
-    if refusal != 0 {
-        return refusal;
-    }
+    check_spare(shape, bytes, spare)?;
     if codes::disk_count(shape) <= k {
-        return 6;
+        return Err(Refusal::Outside);
     }
     if shape.p <= first {
-        return 6;
+        return Err(Refusal::Outside);
     }
     if !plan::is_accepted(shape, codes::column_of(shape, k), plan) {
-        return 9;
+        return Err(Refusal::PlanNotAccepted);
     }
-    0
+    Ok(())
 }
 
 // The column that leads: the one that lies first, or column 0 where that is the diagonal parity column. No other of the first p columns starts
@@ -79,7 +83,7 @@ fn leading(shape: Shape) -> usize
 }
 
 // Fills in the two slots of the column that is t past the one that leads: that for a diagonal which meets it in a row t rows above, and p
-// slots later that for one which meets it in a row p - t rows below.
+// slots later that for one which meets it in a row p - t rows below. The places are lent whole, here and below: no heap, by the project's rules.
 fn put_column(places: &mut [usize; SLOTS], p: usize, t: usize, above: usize, below: usize)
     requires { (p < 32) × (t < p) × (length places.old ≡ 96) }
     ensures { ColumnPut p t above below places.old places.new }
@@ -98,15 +102,13 @@ fn list_places(shape: Shape, lead: usize, places: &mut [usize; SLOTS])
     let p = shape.p;
     let turn = p * shape.cell;
     let mut back = 0;
-    let mut t = 0;
-    while t < p {
+    for t in 0..p {
         let column = codes::turned(t, lead, p);
         let start = codes::column_place(shape, column);
         let above = start - back;
         put_column(places, p, t, above, above + turn);
         places[LEVEL + column] = start;
         back += shape.cell;
-        t += 1;
     }
 }
 
@@ -122,111 +124,85 @@ fn swap_row_parity(shape: Shape, k: usize, places: &mut [usize; SLOTS])
 }
 
 // The window of row i: its places by its row, or by its diagonal, which has the place of the diagonal's parity cell put in for column k's.
-fn aim(shape: Shape, lead: usize, k: usize, plan: u64, i: usize, places: &mut [usize]) -> Window
-    requires { RowRight shape k plan i × (missing shape ≡ 0) × (lead ≡ leader shape) × LevelPlaces shape k places.old
-        × SlantPlaces shape k places.old }
-    ensures { Aimed shape k plan i result places.new }
+fn aim(lost: LostColumn, lead: usize, i: usize, places: &mut [usize]) -> Window
+    requires { (i < rows lost.shape) × (missing lost.shape ≡ 0) × (lead ≡ leader lost.shape) × LevelPlaces lost.shape lost.k places.old
+        × SlantPlaces lost.shape lost.k places.old }
+    ensures { Aimed lost.shape lost.k lost.plan i result places.new }
 {
+    let plan = lost.plan;
     if plan & bits::one_bit(i) == 0 {
         return Window {
             from: LEVEL,
             ahead: i,
         };
     }
-    let p = shape.p;
-    let d = codes::turned(i, k, p);
+    let p = lost.shape.p;
+    let d = codes::turned(i, lost.k, p);
     let ahead = codes::turned(d, p - lead, p);
     let from = p - 1 - ahead;
-    if k < p {
-        places[from + i] = codes::cell_place(shape, d, p) - ahead * shape.cell;
+    if lost.k < p {
+        places[from + i] = codes::cell_place(lost.shape, d, p) - ahead * lost.shape.cell;
     }
     Window { from, ahead }
 }
 
-// Rebuilds row i of column k into its part of the spare: the XOR of the other cells of the equation by which the plan takes it.
+// Rebuilds row i into its part of the spare: the XOR of the other cells of the equation by which the plan takes it.
 fn rebuild_row(
-    shape: Shape,
+    lost: LostColumn,
     stripe: &[u8],
     places: &mut [usize],
     lead: usize,
-    k: usize,
-    plan: u64,
     i: usize,
     part: &mut [u8],
 )
-    requires { RowReady shape (length stripe.now) lead k plan i places.old (length part.old) }
-    ensures { RowDone shape k plan i stripe.now part.old part.new places.new }
+    requires { RowReady lost.shape (length stripe.now) lead lost.k i places.old (length part.old) }
+    ensures { RowDone lost.shape lost.k lost.plan i stripe.now part.old part.new places.new }
 {
-    let window = aim(shape, lead, k, plan, i, places);
+    let window = aim(lost, lead, i, places);
     let from = window.from;
-    let to = from + (shape.p - 1);
-    let at = window.ahead * shape.cell;
-    xor::put_sum_whole(part, stripe, &places[from..to], at);
+    let to = from + (lost.shape.p - 1);
+    let at = window.ahead * lost.shape.cell;
+    let n = part.len();
+    xor::put_sum_from(part, 0, stripe, &places[from..to], at, n);
 }
 
 // Rebuilds n rows of the spare from the first on, each into its own part: no other byte of the spare changes. Where their cells start is
 // listed once, for all of them: every column exists.
-fn run_full(
-    shape: Shape,
-    stripe: &[u8],
-    k: usize,
-    plan: u64,
-    spare: &mut [u8],
-    first: usize,
-    n: usize,
-)
-    requires { RunRight shape (length stripe.now) (length spare.old) k plan first × (first + n ≤ rows shape) × (missing shape ≡ 0) }
-    ensures { RowsRebuilt shape k plan first n stripe.now spare.old spare.new }
+fn run_full(lost: LostColumn, stripe: &[u8], spare: &mut [u8], first: usize, n: usize)
+    requires { RowsFit lost.shape (length stripe.now) (length spare.old) first n × (missing lost.shape ≡ 0) }
+    ensures { RowsRebuilt lost.shape lost.k lost.plan first n stripe.now spare.old spare.new }
 {
     let mut places = [0usize; SLOTS];
-    let lead = leading(shape);
-    list_places(shape, lead, &mut places);
-    swap_row_parity(shape, k, &mut places);
-    let cell = shape.cell;
-    let end = first + n;
-    let mut i = first;
-    while i < end {
+    let lead = leading(lost.shape);
+    list_places(lost.shape, lead, &mut places);
+    swap_row_parity(lost.shape, lost.k, &mut places);
+    let cell = lost.shape.cell;
+    for i in first..first + n {
         let at = i * cell;
         let to = at + cell;
-        rebuild_row(
-            shape,
-            stripe,
-            &mut places,
-            lead,
-            k,
-            plan,
-            i,
-            &mut spare[at..to],
-        );
-        i += 1;
+        rebuild_row(lost, stripe, &mut places, lead, i, &mut spare[at..to]);
     }
 }
 
 // Rebuilds n rows of the spare from the first on, each into its own part: no other byte of the spare changes. Where some column doesn't exist
-// the rows go a way of their own from the start; where none is missing the shape says so before the loop, however its width was given.
-fn run_rows(
-    shape: Shape,
-    stripe: &[u8],
-    k: usize,
-    plan: u64,
-    spare: &mut [u8],
-    first: usize,
-    n: usize,
-)
-    requires { RunRight shape (length stripe.now) (length spare.old) k plan first × (first + n ≤ rows shape) }
-    ensures { RowsRebuilt shape k plan first n stripe.now spare.old spare.new }
+// the rows go a way of their own, which cost the others up to 4 % as one; `RowsFit` stays a clause: a value can't hold what is written.
+fn run_rows(lost: LostColumn, stripe: &[u8], spare: &mut [u8], first: usize, n: usize)
+    requires { RowsFit lost.shape (length stripe.now) (length spare.old) first n }
+    ensures { RowsRebuilt lost.shape lost.k lost.plan first n stripe.now spare.old spare.new }
 {
-    if !refusals::is_short(shape) {
-        let full = Shape {
-            code: shape.code,
-            p: shape.p,
-            cell: shape.cell,
-            width: Width::Full,
+    if !refusals::is_short(lost.shape) {
+        let full = LostColumn {
+            shape: Shape {
+                width: None,
+                ..lost.shape
+            },
+            k: lost.k,
+            plan: lost.plan,
         };
-        run_full(full, stripe, k, plan, spare, first, n);
+        run_full(full, stripe, spare, first, n);
         return;
     }
-    short::run_rows(shape, stripe, k, plan, spare, first, n);
+    short::run_rows(lost, stripe, spare, first, n);
 }
 
 // How many rows are left from the first on.
@@ -237,15 +213,8 @@ fn rows_left(shape: Shape, first: usize) -> usize
     shape.p - 1 - first
 }
 
-// The smaller of two numbers.
-fn smaller(a: usize, b: usize) -> usize
-    ensures { result ≡ min a b }
-{
-    if a < b { a } else { b }
-}
-
 // Run by plan: rebuilds the column at place k of an RDP stripe into the spare, from the first row on and at most as many rows as the budget.
-// Answers how many: the smaller of the budget and of the rows left; or refusal 1, 2, 14, 3, 4, 5, 6 or 9, with every byte as it was.
+// Answers how many: the smaller of the budget and of the rows left. Refusals 1, 2, 14, 3, 4, 5, 6 and 9, with every byte as it was.
 pub fn run(
     shape: Shape,
     stripe: &[u8],
@@ -254,16 +223,18 @@ pub fn run(
     spare: &mut [u8],
     first: usize,
     budget: usize,
-) -> Counted
+) -> Result<usize, Refusal>
     ensures { RunsByPlan shape k plan first budget stripe.now spare.old spare.new result }
 {
-    let refusal = run_refusal(shape, stripe.len(), spare.len(), k, plan, first);
-    if refusal != 0 {
-        return Counted::Refused(refusal);
-    }
+    check_run(shape, stripe.len(), spare.len(), k, plan, first)?;
     let left = rows_left(shape, first);
-    let n = smaller(budget, left);
+    let n = budget.min(left);
     let column = codes::column_of(shape, k);
-    run_rows(shape, stripe, column, plan, spare, first, n);
-    Counted::Count(n)
+    let lost = LostColumn {
+        shape,
+        k: column,
+        plan,
+    };
+    run_rows(lost, stripe, spare, first, n);
+    Ok(n)
 }

@@ -5,7 +5,8 @@ use Prim.Native.Nat.{ℕ}
 use lib.ListN.{length}
 use Rattle.xor.proofs.Cases.{by_equal}
 use Rattle.codes.specs.declared.Shape.{Shape}
-use Rattle.codes.specs.declared.Counted.{Counted}
+use Rattle.refusals.specs.declared.reason.Refusal.{Refusal}
+use Rattle.std.specs.Prelude.{Result}
 use Rattle.codes.specs.Encoded.{broken_equations}
 use Rattle.codes.specs.Geometry.{cell_at}
 use Rattle.refusals.specs.Refusals.{stripe_faults, write_faults}
@@ -30,14 +31,14 @@ encode_one s old a b x y ha hb = (
     same = ha.number ∙ sym hb.number
 
 -- broken
-pub broken_one : (s : Shape) (stripe : List ℕ) (a b : Counted) → Counts s stripe a → Counts s stripe b → a ≡ b
+pub broken_one : (s : Shape) (stripe : List ℕ) (a b : Result ℕ Refusal) → Counts s stripe a → Counts s stripe b → a ≡ b
 broken_one s stripe a b ha hb =
     let faults = stripe_faults s (length stripe) in
     let is : ℕ → Type 0 = λ n. n ≡ broken_equations s stripe in
     (one_answer faults faults stripe stripe stripe is is refl (λ z m n em en. (em ∙ sym en, refl)) a b ha hb).0
 
 -- a small write
-pub write_one : (s : Shape) (row column : ℕ) (bytes old : List ℕ) (x y : List ℕ) (a b : Counted) → Writes s row column bytes old x a → Writes s row column bytes old y b → (a ≡ b) × (x ≡ y)
+pub write_one : (s : Shape) (row column : ℕ) (bytes old : List ℕ) (x y : List ℕ) (a b : Result ℕ Refusal) → Writes s row column bytes old x a → Writes s row column bytes old y b → (a ≡ b) × (x ≡ y)
 write_one s row column bytes old x y =
     let faults = write_faults s (length old) row column (length bytes) in
     let cell = cell_at s row column in

@@ -1,9 +1,9 @@
 -- What a small write promises: document 01, "What each call gives".
-use Rattle.std.specs.Prelude.{◌≡◌, ◌≢◌, List, false, not, ◌&&◌, ℕ, ◌<◌, eqb, length, get_or}
+use Rattle.std.specs.Prelude.{◌≡◌, Result, ◌≢◌, List, false, not, ◌&&◌, ℕ, ◌<◌, eqb, length, get_or}
 use Rattle.xor.specs.Xor.{◌⊕◌}
 use Rattle.xor.specs.Sets.{count}
 use Rattle.codes.specs.declared.Shape.{Shape}
-use Rattle.codes.specs.declared.Counted.{Counted}
+use Rattle.refusals.specs.declared.reason.Refusal.{Refusal}
 use Rattle.codes.specs.Shape.{cells, equations, stripe_length}
 use Rattle.codes.specs.Geometry.{cell_at}
 use Rattle.codes.specs.Encoded.{byte_at, parity_cell, sum_over, is_parity, Encoded}
@@ -37,7 +37,7 @@ pub record Depending (s : Shape) (c n : ℕ) : Type 0 where
   pub size : n ≡ count (cells s) (λ k. is_parity s k && not (eqb (unit k) 0))
 
 -- a small write leaves the stripe so written and answers how many parity cells depend on the position, or it answers the refusal and leaves every byte
-abbrev pub Writes : Shape → ℕ → ℕ → List ℕ → List ℕ → List ℕ → Counted → Type 0
+abbrev pub Writes : Shape → ℕ → ℕ → List ℕ → List ℕ → List ℕ → Result ℕ Refusal → Type 0
 Writes s row column bytes old new =
     Answers (write_faults s (length old) row column (length bytes)) old new
     (λ n. Written s (cell_at s row column) old bytes new × Depending s (cell_at s row column) n)

@@ -3,30 +3,32 @@
 
 ghost use Rattle.std.specs.Prelude.{◌≡◌, true, ℕ, ◌<◌, length};
 ghost use Rattle.std.specs.Int.Count.{ones};
+ghost use Rattle.xor.specs.Sets.{count};
 ghost use Rattle.bits.specs.Bit.{bit};
 ghost use Rattle.codes.specs.Shape.{equations, cell_number, stripe_length, WellFormed};
 ghost use Rattle.codes.specs.Geometry.{place};
 ghost use Rattle.codes.specs.Depends.{WriteRight};
 ghost use Rattle.codes.specs.Encoded.{broken_equations};
 ghost use Rattle.equation.specs.Window.{Shares};
+ghost use Rattle.equation.specs.InWindow.{SharesIn, is_failing};
+ghost use Rattle.refusals.specs.Number.{number};
 ghost use Rattle.stripe.specs.Encode.{EncodingOf, Encodes};
 ghost use Rattle.stripe.specs.Broken.{Counts};
 ghost use Rattle.stripe.specs.Parts.{differs, Spread, FromCell};
 ghost use Rattle.stripe.specs.Write.{Written, Depending, Writes};
 
-use codes::{Counted, Shape};
+use codes::Shape;
+use equation::Window;
+use refusals::Refusal;
 
 // Sets every parity cell with what is shared, equation by equation: what a later equation sums has been set by then.
 fn set_parities_with(shape: Shape, stripe: &mut [u8], shared: &[u8])
     requires { WellFormed shape × (length stripe.old ≡ stripe_length shape) × Shares shape stripe.old 0 shape.cell shared.now }
     ensures { EncodingOf shape stripe.old stripe.new }
 {
-    let cell = shape.cell;
     let n = codes::equation_count(shape);
-    let mut q = 0;
-    while q < n {
-        equation::set_parity(shape, stripe, q, 0, cell, shared);
-        q += 1;
+    for q in 0..n {
+        equation::set_parity(shape, stripe, q, 0, shape.cell, shared);
     }
 }
 
@@ -42,43 +44,26 @@ fn set_parities(shape: Shape, stripe: &mut [u8])
         return;
     }
     let mut shared = [0u8; codes::MOST_CELL];
-    equation::put_shared(shape, stripe, 0, shape.cell, &mut shared);
+    Window::whole(shape, stripe).put_shared(&mut shared);
     set_parities_with(shape, stripe, &shared);
 }
 
-// Encode: every parity cell is set so that the stripe is encoded, and data cells stay. Answers 0, or refusal 1, 2, 14, 4 or 5.
-pub fn encode(shape: Shape, stripe: &mut [u8]) -> usize
-    ensures { Encodes shape stripe.old result stripe.new }
+// Encode: every parity cell is set so that the stripe is encoded, and data cells stay. Refusals 1, 2, 14, 4 and 5.
+pub fn encode(shape: Shape, stripe: &mut [u8]) -> Result<(), Refusal>
+    ensures { Encodes shape stripe.old (number result) stripe.new }
 {
-    let refusal = refusals::stripe_refusal(shape, stripe.len());
-    if refusal != 0 {
-        return refusal;
-    }
+    refusals::check_stripe(shape, stripe.len())?;
     set_parities(shape, stripe);
-    0
+    Ok(())
 }
 
-// How many equations fail in at least one byte, with what is shared.
-fn count_broken_with(shape: Shape, stripe: &[u8], shared: &[u8]) -> usize
-    requires { WellFormed shape × (length stripe.now ≡ stripe_length shape) × Shares shape stripe.now 0 shape.cell shared.now }
-    ensures { result ≡ broken_equations shape stripe.now }
+// How many equations fail in the window, with what is shared.
+fn count_failing(window: &Window, shared: &[u8]) -> usize
+    requires { SharesIn window.now shared.now }
+    ensures { result ≡ count (equations window.now.shape) (is_failing window.now) }
 {
-    let cell = shape.cell;
-    let equations = codes::equation_count(shape);
-    let mut broken = 0;
-    let mut q = 0;
-    while q < equations {
-        let failing = if codes::takes_shared(shape, q) {
-            equation::fails_with(shape, stripe, q, 0, cell, shared)
-        } else {
-            equation::fails(shape, stripe, q, 0, cell)
-        };
-        if failing {
-            broken += 1;
-        }
-        q += 1;
-    }
-    broken
+    let n = codes::equation_count(window.shape);
+    (0..n).filter(|&q| window.fails_with(q, shared)).count()
 }
 
 // How many equations fail in at least one byte.
@@ -86,24 +71,22 @@ fn count_broken(shape: Shape, stripe: &[u8]) -> usize
     requires { WellFormed shape × (length stripe.now ≡ stripe_length shape) }
     ensures { result ≡ broken_equations shape stripe.now }
 {
+    let window = Window::whole(shape, stripe);
     if !codes::shares(shape) {
         // nothing is shared: any bytes will do for it
-        return count_broken_with(shape, stripe, stripe);
+        return count_failing(&window, stripe);
     }
     let mut shared = [0u8; codes::MOST_CELL];
-    equation::put_shared(shape, stripe, 0, shape.cell, &mut shared);
-    count_broken_with(shape, stripe, &shared)
+    window.put_shared(&mut shared);
+    count_failing(&window, &shared)
 }
 
 // Broken: how many equations fail in at least one byte. It only reads. Refusals 1, 2, 14, 4 and 5.
-pub fn broken(shape: Shape, stripe: &[u8]) -> Counted
+pub fn broken(shape: Shape, stripe: &[u8]) -> Result<usize, Refusal>
     ensures { Counts shape stripe.now result }
 {
-    let refused = refusals::stripe_refusal(shape, stripe.len());
-    if refused != 0 {
-        return Counted::Refused(refused);
-    }
-    Counted::Count(count_broken(shape, stripe))
+    refusals::check_stripe(shape, stripe.len())?;
+    Ok(count_broken(shape, stripe))
 }
 
 // XORs how the bytes of the data cell at `from` differ from the new ones into the parity cell of every equation of a set.
@@ -112,12 +95,9 @@ fn spread(shape: Shape, stripe: &mut [u8], set: u64, from: usize, new: &[u8])
     ensures { Spread shape (λ q. bit q set) (differs stripe.old from new.now) stripe.old
         stripe.new }
 {
-    let mut rest = set;
-    while rest != 0 {
-        let q = bits::lowest_bit(rest) as usize;
+    for q in bits::members(set) {
         let to = codes::parity_place(shape, q);
         xor::add_difference(stripe, to, from, new);
-        rest = rest & (rest - 1);
     }
 }
 
@@ -149,15 +129,18 @@ fn write_cell(
 }
 
 // Small write: puts new bytes into a data cell, and into the parity cells that depend on it what the equations say.
-// Answers how many parity cells depend on the position, or refusal 1, 2, 14, 4, 5, 6, 7 or 8.
-pub fn write(shape: Shape, stripe: &mut [u8], row: usize, column: usize, new: &[u8]) -> Counted
+// Answers how many parity cells depend on the position. Refusals 1, 2, 14, 4, 5, 6, 7 and 8.
+pub fn write(
+    shape: Shape,
+    stripe: &mut [u8],
+    row: usize,
+    column: usize,
+    new: &[u8],
+) -> Result<usize, Refusal>
     ensures { Writes shape row column new.now stripe.old stripe.new result }
 {
-    let number = refusals::write_refusal(shape, stripe.len(), row, column, new.len());
-    if number != 0 {
-        return Counted::Refused(number);
-    }
+    refusals::check_write(shape, stripe.len(), row, column, new.len())?;
     let inside = codes::column_of(shape, column);
     let from = codes::lent_place(shape, row, column);
-    Counted::Count(write_cell(shape, stripe, row, inside, from, new))
+    Ok(write_cell(shape, stripe, row, inside, from, new))
 }

@@ -8,6 +8,8 @@ use native.Mathlib.Omega.{arith}
 use lib.Dec.{eqb, ltb}
 use lib.ListN.{length, get_or, get_or-eq_default}
 use borrow.Author.Tests.{eqb-true, eq-eqb, ltb-true, not-false, not-true}
+use Rattle.std.specs.declared.option.Option.{Option}
+use Rattle.std.specs.declared.option.Option.TheVariants.{None, Some}
 use Rattle.xor.specs.Xor.{◌⊕◌, xors}
 use Rattle.xor.specs.Sets.{any, count}
 use Rattle.xor.proofs.Cases.{by_less, clash, and_left, and_right, not_xor}
@@ -16,8 +18,6 @@ use Rattle.bits.specs.Bit.{bit, lowest}
 use Rattle.elimination.specs.Solution.{syndrome}
 use Rattle.elimination.specs.Method.{run}
 use Rattle.codes.specs.declared.Shape.{Shape}
-use Rattle.codes.specs.declared.Width.{Width}
-use Rattle.codes.specs.declared.Width.TheVariants.{Full, Data}
 use Rattle.codes.specs.Shape.{last_code, listed, rows, columns, missing, disks, existing, equations, cells, cell_number, stripe_length, WellFormed}
 use Rattle.codes.specs.Geometry.{is_there, cell_there, column_of, lies_at, cell_at, cell_of, callers_cell, place}
 use Rattle.codes.specs.Equations.{equation}
@@ -26,6 +26,10 @@ use Rattle.refusals.specs.Refusals.{Fault, order, applies, first_of, refusal, sh
 use Rattle.codes.specs.Holders.{holds}
 use Rattle.codes.specs.Depends.{WriteRight}
 use Rattle.codes.proofs.Shapes.{each_code}
+use Rattle.std.specs.Prelude.{Result, Ok, Err}
+use Rattle.refusals.specs.declared.reason.Refusal.{Refusal}
+use Rattle.refusals.specs.Number.{number_of}
+use Rattle.refusals.proofs.Answer.{numbered}
 use Rattle.refusals.proofs.Refused.{accepted, write_accepted}
 use Rattle.codes.proofs.Positions.{cell_inside}
 use Rattle.codes.proofs.Geometry.{column_there, cell_there_at}
@@ -37,21 +41,22 @@ use Rattle.stripe.proofs.Exists.{point, unit_exists, written_alone}
 use Rattle.codes.specs.Agree.{in_columns, callers_columns}
 use Rattle.decide.specs.Survivors.{named}
 use Rattle.bad.specs.declared.BadColumn.{BadColumn}
-use Rattle.bad.specs.declared.BadColumn.TheVariants.{Clean, Column, Unexplained, Refused}
-use Rattle.bad.specs.Bad.{Replaceable, bad_number, Finding}
+use Rattle.bad.specs.declared.BadColumn.TheVariants.{Clean, Column, Unexplained}
+use Rattle.bad.specs.Bad.{Replaceable, Finding}
 use Rattle.decide.proofs.Determined.{columns_determined}
 use Rattle.rebuild.specs.Rebuild.{Decides, undetermined, restored, RebuildsCells}
 use Rattle.rebuild.proofs.Computed.{outcome, stops, stops_undetermined, passes_determined, fits, fits_restores, unfit_none}
-use Rattle.plan.specs.declared.PlanAnswer.TheVariants.{Plan}
 use Rattle.plan.specs.Plan.{diagonal, chosen, reads_cell, column_reads, cells_read, by_rule, is_accepted}
 use Rattle.plan.specs.Plans.{PlansBy}
-use Rattle.plan.proofs.Planning.{plan_refused, plan_given}
+use Rattle.plan.proofs.Planning.{plan_given}
 use Rattle.balance.specs.Balance.{offered, shifted, fits as fitting, shift, by_balance}
 use Rattle.balance.specs.Refusals.{balance_faults}
+use Rattle.balance.specs.Balances.{Balances}
 use Rattle.plan.specs.Refusals.{plan_faults}
+use Rattle.spare.specs.Run.{RunsByPlan}
 use Rattle.spare.specs.Refusals.{spare_faults, run_faults}
 use Rattle.show.specs.Refusals.{show_faults}
-use Rattle.table.specs.Examples.{Claim, encoded, broken, written, rebuild_refused, rebuilt, found, planned, run_refused, balanced, balance_refused, read_from, Example, empty_spare, table, shelves, evenodds, balances, Claims, Holds, AllHold}
+use Rattle.table.specs.Examples.{Claim, encoded, broken, written, rebuild_refused, rebuilt, found, planned, run_refused, balanced, balance_refused, read_from, Example, empty_spare, table, shelves, evenodds, balances, RefusedBy, Claims, Holds, AllHold}
 
 -- the difference put alone and encoded, byte t of it in cell k
 differing : Shape → ℕ → List ℕ → List ℕ → ℕ → ℕ → ℕ
@@ -77,7 +82,6 @@ finds : Shape → List ℕ → BadColumn → Bool
 finds s stripe Clean = not (any (equations s) (fails s stripe))
 finds s stripe (Column c) = any (equations s) (fails s stripe) && (not (wide stripe) && (ltb c (disks s) && replaces s stripe c))
 finds s stripe Unexplained = any (equations s) (fails s stripe) && not (any (disks s) (replaces s stripe))
-finds s stripe (Refused number) = false
 
 -- whether a rebuild of the cells that a list names is not refused for its numbers
 right_cells : Shape → List ℕ → List ℕ → Bool
@@ -93,6 +97,10 @@ plans_by s k rule faults taken reads =
     eqb (refusal faults) 0
     && (ltb taken (2 ^ rows s) && (not (any (rows s) (λ i. xor (bit i taken) (rule (column_of s k) i))) && eqb reads (cells_read s (column_of s k) taken)))
 
+-- whether some refusal has a number
+is_number : ℕ → Bool
+is_number number = eqb (number_of (numbered number)) number
+
 claimed : Shape → List ℕ → Claim → Bool
 claimed s stripe encoded = not (any (equations s) (fails s stripe))
 claimed s stripe (broken n) = eqb (broken_equations s stripe) n
@@ -106,9 +114,9 @@ claimed s stripe (rebuilt lost new) =
 claimed s stripe (found finding) = finds s stripe finding
 claimed s stripe (planned k taken reads) = plans_by s k (by_rule s) (plan_faults s k) taken reads
 claimed s stripe (balanced k taken reads) = plans_by s k (by_balance s) (balance_faults s k) taken reads
-claimed s stripe (balance_refused k number) = not (eqb number 0) && eqb (refusal (balance_faults s k)) number
+claimed s stripe (balance_refused k number) = is_number number && eqb (refusal (balance_faults s k)) number
 claimed s stripe (read_from k plan column n) = eqb (column_reads s (column_of s k) plan (column_of s column)) n
-claimed s stripe (run_refused k plan number) = not (eqb number 0) && eqb (refusal (run_faults s (length stripe) (length (empty_spare s)) k plan 0)) number
+claimed s stripe (run_refused k plan number) = is_number number && eqb (refusal (run_faults s (length stripe) (length (empty_spare s)) k plan 0)) number
 
 module _ (s : Shape) (stripe : List ℕ) (row column : ℕ) (bytes new : List ℕ) (n : ℕ) (h : claimed s stripe (written row column bytes new n) ≡ true) where
   c : ℕ
@@ -204,14 +212,6 @@ module _ (s : Shape) (w : WellFormed s) (stripe : List ℕ) where
     some_fails s stripe (and_left (any (equations s) (fails s stripe)) (not (any (disks s) (replaces s stripe))) h),
     none_replaceable (not-true (any (disks s) (replaces s stripe)) (and_right (any (equations s) (fails s stripe)) (not (any (disks s) (replaces s stripe))) h)),
   )
-  is_found (Refused number) h = clash h refl
-
-found_number : (s : Shape) (stripe : List ℕ) (answer : BadColumn) → finds s stripe answer ≡ true → bad_number answer ≡ 0
-unfolding finds
-found_number s stripe Clean h = refl
-found_number s stripe (Column c) h = refl
-found_number s stripe Unexplained h = refl
-found_number s stripe (Refused number) h = clash h refl
 
 module _ (s : Shape) (stripe : List ℕ) (w : WellFormed s) (lost : List ℕ) where
   -- the numbers are right, so that only demand 3 decides
@@ -265,7 +265,7 @@ module _ (s : Shape) (stripe : List ℕ) (w : WellFormed s) (lost : List ℕ) wh
         }) refl)
 
 is_planned : (s : Shape) (k : ℕ) (rule : ℕ → ℕ → Bool) (faults : List Fault) (taken reads : ℕ) → plans_by s k rule faults taken reads ≡ true
-    → PlansBy s k rule faults (Plan (record { rows = taken; reads = reads }))
+    → PlansBy s k rule faults (Ok (record { rows = taken; reads = reads }))
 unfolding plans_by
 is_planned s k rule faults taken reads h =
     plan_given s k rule faults (column_of s k) taken reads (eqb-true (refusal faults) 0 (and_left (eqb (refusal faults) 0) later h)) refl
@@ -287,6 +287,14 @@ is_planned s k rule faults taken reads h =
     ends : last ≡ true
     ends = and_right (ltb taken (2 ^ rows s)) last (and_right (eqb (refusal faults) 0) later h)
 
+-- the refusal that has a number, where that is the number of the first fault
+refused_by : {A : Type 0} (number given : ℕ) → (is_number number && eqb given number) ≡ true → (Allowed : Result A Refusal → Type 0)
+    → (number_of (numbered number) ≡ given → Allowed (Err (numbered number))) → RefusedBy number Allowed
+unfolding is_number
+refused_by number given h Allowed so =
+    let is = eqb-true (number_of (numbered number)) number (and_left (is_number number) (eqb given number) h) in
+    (numbered number, is, so (is ∙ sym (eqb-true given number (and_right (is_number number) (eqb given number) h))))
+
 claimed_so : (s : Shape) (stripe : List ℕ) (c : Claim) → refusal (stripe_faults s (length stripe)) ≡ 0 → claimed s stripe c ≡ true → Claims s stripe c
 unfolding claimed c
 claimed_so s stripe encoded right h = is_clean s stripe h
@@ -294,18 +302,14 @@ claimed_so s stripe (broken n) right h = (sym right, sym (eqb-true (broken_equat
 claimed_so s stripe (written row column bytes new n) right h = (sym (not_refused s stripe row column bytes new n h), (is_written s stripe row column bytes new n h, is_depending s stripe row column bytes new n h))
 claimed_so s stripe (rebuild_refused lost number) right h = is_refused s stripe (accepted s (length stripe) right).0 lost number h
 claimed_so s stripe (rebuilt lost new) right h = is_rebuilt s stripe (accepted s (length stripe) right).0 lost new h
-claimed_so s stripe (found answer) right h = record { number = found_number s stripe answer h ∙ sym right; finding = λ z. is_found s (accepted s (length stripe) right).0 stripe answer h }
+claimed_so s stripe (found answer) right h = (sym right, is_found s (accepted s (length stripe) right).0 stripe answer h)
 claimed_so s stripe (planned k taken reads) right h = is_planned s k (by_rule s) (plan_faults s k) taken reads h
 claimed_so s stripe (balanced k taken reads) right h = is_planned s k (by_balance s) (balance_faults s k) taken reads h
-claimed_so s stripe (balance_refused k number) right h =
-    plan_refused s k (by_balance s) (balance_faults s k) number (sym (eqb-true (refusal (balance_faults s k)) number (and_right (not (eqb number 0)) _ h)))
-    (λ e. clash (eq-eqb number 0 e) (not-true (eqb number 0) (and_left (not (eqb number 0)) _ h)))
+claimed_so s stripe (balance_refused k number) right h = refused_by number (refusal (balance_faults s k)) h (Balances s k) (λ e. e)
 claimed_so s stripe (read_from k plan column n) right h = eqb-true (column_reads s (column_of s k) plan (column_of s column)) n h
-claimed_so s stripe (run_refused k plan number) right h = (
-  sym (eqb-true (refusal (run_faults s (length stripe) (length (empty_spare s)) k plan 0)) number (and_right (not (eqb number 0)) _ h)),
-  (λ e. clash (eq-eqb number 0 e) (not-true (eqb number 0) (and_left (not (eqb number 0)) _ h))),
-  refl,
-)
+claimed_so s stripe (run_refused k plan number) right h =
+    let empty = empty_spare s in
+    refused_by number (refusal (run_faults s (length stripe) (length empty) k plan 0)) h (RunsByPlan s k plan 0 1 stripe empty empty) (λ e. (e, refl))
 
 passes : List Example → Bool
 passes [] = true
@@ -331,7 +335,7 @@ all_hold (e ∷ rows') h =
 
 -- the test of every row, done once
 all_pass : (passes table ≡ true) × (passes shelves ≡ true) × (passes evenodds ≡ true) × (passes balances ≡ true)
-unfolding table shelves evenodds balances passes claimed plans_by right_cells unlike unwritten differing depending settled is_parity write_faults refusal first_of order applies stripe_faults shape_faults cells_faults listed rows columns equations cells cell_number stripe_length column_of lies_at cell_of callers_cell place equation parity_cell sums_cell byte_at sum_over fails broken_equations any count xors ◌⊕◌ named run lowest holds xor finds replaces wide in_columns syndrome bit diagonal chosen reads_cell column_reads cells_read by_rule is_accepted plan_faults offered shifted fitting shift by_balance balance_faults spare_faults run_faults missing disks existing is_there cell_there
+unfolding numbered is_number table shelves evenodds balances passes claimed plans_by right_cells unlike unwritten differing depending settled is_parity write_faults refusal first_of order applies stripe_faults shape_faults cells_faults listed rows columns equations cells cell_number stripe_length column_of lies_at cell_of callers_cell place equation parity_cell sums_cell byte_at sum_over fails broken_equations any count xors ◌⊕◌ named run lowest holds xor finds replaces wide in_columns syndrome bit diagonal chosen reads_cell column_reads cells_read by_rule is_accepted plan_faults offered shifted fitting shift by_balance balance_faults spare_faults run_faults missing disks existing is_there cell_there
 all_pass = (refl, refl, refl, refl)
 
 -- the theorem over document 01's table, and those over the tables of shelves with fewer disks, of EVENODD and of balanced plans
@@ -350,7 +354,7 @@ balances_hold = all_hold balances all_pass.3
 -- plan, balanced plan, run and show of another code than RDP are refused for the code, and where a number of data columns is given for the number, whatever else
 -- they are told
 module _ (p cell : ℕ) (prime : listed p ≡ true) where
-  abbrev pub shaped : Width → ℕ → Shape
+  abbrev pub shaped : Option ℕ → ℕ → Shape
   shaped width code = record { code = code; p = p; cell = cell; width = width }
 
   -- each of the four calls gives this number
@@ -364,19 +368,19 @@ module _ (p cell : ℕ) (prime : listed p ≡ true) where
       → ((bytes spare k done row column : ℕ) → refusal (show_faults s bytes spare k done row column) ≡ number) → Give s number
   given s number a b c d = record { plans = a; balanced = b; runs = c; shows = d }
 
-  pub code_refused : (code : ℕ) → 1 < code → code ≤ last_code → Give (shaped Full code) 3
+  pub code_refused : (code : ℕ) → 1 < code → code ≤ last_code → Give (shaped None code) 3
   unfolding plan_faults balance_faults missing spare_faults run_faults show_faults refusal first_of order applies
   code_refused code lo hi =
-      each_code (λ n. n ≢ 1 → Give (shaped Full n) 3) (λ n. absurd (n refl))
+      each_code (λ n. n ≢ 1 → Give (shaped None n) 3) (λ n. absurd (n refl))
       (λ n. given _ 3 (λ k. rw prime refl) (λ k. rw prime refl) (λ a b c d e. rw prime refl) (λ a b c d e f. rw prime refl))
       (λ n. given _ 3 (λ k. rw prime refl) (λ k. rw prime refl) (λ a b c d e. rw prime refl) (λ a b c d e f. rw prime refl))
       (λ n. given _ 3 (λ k. rw prime refl) (λ k. rw prime refl) (λ a b c d e. rw prime refl) (λ a b c d e f. rw prime refl))
       code (omega arith) hi (λ e. omega arith)
 
-  pub data_before_code : (m code : ℕ) → 1 < code → code ≤ last_code → Give (shaped (Data m) code) 14
+  pub data_before_code : (m code : ℕ) → 1 < code → code ≤ last_code → Give (shaped (Some m) code) 14
   unfolding plan_faults balance_faults missing spare_faults run_faults show_faults refusal first_of order applies
   data_before_code m code lo hi =
-      each_code (λ n. n ≢ 1 → Give (shaped (Data m) n) 14) (λ n. absurd (n refl))
+      each_code (λ n. n ≢ 1 → Give (shaped (Some m) n) 14) (λ n. absurd (n refl))
       (λ n. given _ 14 (λ k. rw prime refl) (λ k. rw prime refl) (λ a b c d e. rw prime refl) (λ a b c d e f. rw prime refl))
       (λ n. given _ 14 (λ k. rw prime refl) (λ k. rw prime refl) (λ a b c d e. rw prime refl) (λ a b c d e f. rw prime refl))
       (λ n. given _ 14 (λ k. rw prime refl) (λ k. rw prime refl) (λ a b c d e. rw prime refl) (λ a b c d e f. rw prime refl))

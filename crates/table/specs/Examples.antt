@@ -1,20 +1,18 @@
 -- The examples that document 01 marks P, as one table, and such of shelves with fewer disks, of EVENODD and of balanced plans. Each row claims
 -- something in the words of the contracts.
-use Rattle.std.specs.Prelude.{◌≡◌, List, [], ◌∷◌, ◌++◌, ℕ, ◌*◌, length, replicate}
+use Rattle.std.specs.Prelude.{◌≡◌, List, [], ◌∷◌, ◌++◌, ℕ, ◌*◌, length, replicate, Option, None, Some, Result, Ok, Err}
 use Rattle.codes.specs.declared.Shape.{Shape}
-use Rattle.codes.specs.declared.Width.{Width}
-use Rattle.codes.specs.declared.Width.TheVariants.{Full, Data}
-use Rattle.codes.specs.declared.Counted.TheVariants.{Count, Refused}
 use Rattle.codes.specs.Shape.{rows, cell_number, stripe_length, WellFormed}
 use Rattle.codes.specs.Geometry.{column_of}
 use Rattle.codes.specs.Encoded.{Encoded}
+use Rattle.refusals.specs.declared.reason.Refusal.{Refusal}
+use Rattle.refusals.specs.Number.{number_of}
 use Rattle.stripe.specs.Broken.{Counts}
 use Rattle.stripe.specs.Write.{Writes}
 use Rattle.rebuild.specs.Rebuild.{RebuildsCells}
 use Rattle.bad.specs.declared.BadColumn.{BadColumn}
 use Rattle.bad.specs.declared.BadColumn.TheVariants.{Column, Unexplained}
 use Rattle.bad.specs.Bad.{Finds}
-use Rattle.plan.specs.declared.PlanAnswer.TheVariants.{Plan, Refused as PlanRefused}
 use Rattle.plan.specs.Plan.{column_reads}
 use Rattle.plan.specs.Plans.{Plans}
 use Rattle.balance.specs.Balances.{Balances}
@@ -51,11 +49,11 @@ pub record Example : Type 0 where
 
 -- RDP, H-Code, X-Code and EVENODD with p = 3 and cells of one byte
 abbrev pub small : ℕ → Shape
-small code = record { code = code; p = 3; cell = 1; width = Full }
+small code = record { code = code; p = 3; cell = 1; width = None }
 
 -- RDP with p = 5 and cells of one byte
 abbrev pub five : Shape
-five = record { code = 1; p = 5; cell = 1; width = Full }
+five = record { code = 1; p = 5; cell = 1; width = None }
 
 -- the number of its cell (row, column)
 abbrev pub at : ℕ → ℕ → ℕ
@@ -97,7 +95,7 @@ table =
 
 -- RDP with p = 5, two data columns and cells of one byte: four disks
 abbrev pub shelf : Shape
-shelf = record { code = 1; p = 5; cell = 1; width = Data 2 }
+shelf = record { code = 1; p = 5; cell = 1; width = Some 2 }
 
 -- a stripe of it, and one with another byte found in its first cell
 abbrev pub on_shelf : ℕ → List ℕ
@@ -142,31 +140,31 @@ evenodds =
     ∷ []
 
 -- RDP with p = 7, cells of one byte and so many data columns, and a stripe of zeros
-abbrev pub seven : Width → Claim → Example
+abbrev pub seven : Option ℕ → Claim → Example
 seven width claim = record { number = 4; shape = record { code = 1; p = 7; cell = 1; width = width }; claim = claim; stripe = replicate 48 0 }
 
 -- the same of balanced plans, for document 02, request 04: column 0 with its reads of each other column, balanced and by plan, and refusals
 unfoldable pub balances : List Example
 balances =
-    seven Full (balanced 0 22 27)
-    ∷ seven Full (read_from 0 22 1 4)
-    ∷ seven Full (read_from 0 22 2 4)
-    ∷ seven Full (read_from 0 22 3 4)
-    ∷ seven Full (read_from 0 22 4 4)
-    ∷ seven Full (read_from 0 22 5 4)
-    ∷ seven Full (read_from 0 22 6 4)
-    ∷ seven Full (read_from 0 22 7 3)
-    ∷ seven Full (planned 0 7 27)
-    ∷ seven Full (read_from 0 7 1 5)
-    ∷ seven Full (read_from 0 7 2 4)
-    ∷ seven Full (read_from 0 7 3 3)
-    ∷ seven Full (read_from 0 7 4 3)
-    ∷ seven Full (read_from 0 7 5 4)
-    ∷ seven Full (read_from 0 7 6 5)
-    ∷ seven Full (read_from 0 7 7 3)
-    ∷ seven Full (balanced 4 49 27)
-    ∷ seven Full (balance_refused 7 6)
-    ∷ seven (Data 6) (balanced 0 22 27)
+    seven None (balanced 0 22 27)
+    ∷ seven None (read_from 0 22 1 4)
+    ∷ seven None (read_from 0 22 2 4)
+    ∷ seven None (read_from 0 22 3 4)
+    ∷ seven None (read_from 0 22 4 4)
+    ∷ seven None (read_from 0 22 5 4)
+    ∷ seven None (read_from 0 22 6 4)
+    ∷ seven None (read_from 0 22 7 3)
+    ∷ seven None (planned 0 7 27)
+    ∷ seven None (read_from 0 7 1 5)
+    ∷ seven None (read_from 0 7 2 4)
+    ∷ seven None (read_from 0 7 3 3)
+    ∷ seven None (read_from 0 7 4 3)
+    ∷ seven None (read_from 0 7 5 4)
+    ∷ seven None (read_from 0 7 6 5)
+    ∷ seven None (read_from 0 7 7 3)
+    ∷ seven None (balanced 4 49 27)
+    ∷ seven None (balance_refused 7 6)
+    ∷ seven (Some 6) (balanced 0 22 27)
     ∷ record { number = 4; shape = five; claim = balance_refused 5 15; stripe = zeros }
     ∷ record { number = 4; shape = shelf; claim = balance_refused 0 14; stripe = on_shelf 0x01 }
     ∷ record { number = 4; shape = small 2; claim = balance_refused 0 3; stripe = replicate 8 0 }
@@ -176,19 +174,23 @@ balances =
 abbrev pub empty_spare : Shape → List ℕ
 empty_spare s = replicate (rows s * s.cell) 0
 
+-- the refusal with a number is what a call may answer
+abbrev pub RefusedBy : {A : Type 0} → ℕ → (Result A Refusal → Type 0) → Type 0
+RefusedBy number Allowed = (why : Refusal) × (number_of why ≡ number) × Allowed (Err why)
+
 -- what a claim says of a stripe: the calls' own contracts, with these answers
 abbrev pub Claims : Shape → List ℕ → Claim → Type 0
 Claims s stripe encoded = Encoded s stripe
-Claims s stripe (broken n) = Counts s stripe (Count n)
-Claims s stripe (written row column bytes new n) = Writes s row column bytes stripe new (Count n)
+Claims s stripe (broken n) = Counts s stripe (Ok n)
+Claims s stripe (written row column bytes new n) = Writes s row column bytes stripe new (Ok n)
 Claims s stripe (rebuild_refused lost number) = RebuildsCells s lost stripe number stripe
 Claims s stripe (rebuilt lost new) = RebuildsCells s lost stripe 0 new
-Claims s stripe (found finding) = Finds s stripe finding
-Claims s stripe (planned k taken reads) = Plans s k (Plan (record { rows = taken; reads = reads }))
-Claims s stripe (balanced k taken reads) = Balances s k (Plan (record { rows = taken; reads = reads }))
-Claims s stripe (balance_refused k number) = Balances s k (PlanRefused number)
+Claims s stripe (found finding) = Finds s stripe (Ok finding)
+Claims s stripe (planned k taken reads) = Plans s k (Ok (record { rows = taken; reads = reads }))
+Claims s stripe (balanced k taken reads) = Balances s k (Ok (record { rows = taken; reads = reads }))
+Claims s stripe (balance_refused k number) = RefusedBy number (Balances s k)
 Claims s stripe (read_from k plan column count) = column_reads s (column_of s k) plan (column_of s column) ≡ count
-Claims s stripe (run_refused k plan number) = RunsByPlan s k plan 0 1 stripe (empty_spare s) (empty_spare s) (Refused number)
+Claims s stripe (run_refused k plan number) = RefusedBy number (RunsByPlan s k plan 0 1 stripe (empty_spare s) (empty_spare s))
 
 -- a row holds: its stripe is well formed, and what is claimed of it is so
 pub record Holds (e : Example) : Type 0 where

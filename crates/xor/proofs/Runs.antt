@@ -2,7 +2,7 @@
 use mathlib.Core.Path.{◌≡◌, refl, sym, ap, ap₂, ◌∙◌, subst}
 use mathlib.Core.Logic.{◌≢◌, ◌⊎◌, inl, inr, ⊎_elim}
 use mathlib.Core.List.{List, [], ◌∷◌}
-use mathlib.Core.Bool.{Bool, true, false, ◌&&◌}
+use mathlib.Core.Bool.{Bool, true, false, cond, not, ◌&&◌}
 use Prim.Native.Nat.{ℕ, zero, suc, ◌+◌, ◌-◌, ◌≤◌, ◌<◌}
 use native.Mathlib.Nat.{add_assoc, zero-add}
 use native.Mathlib.Omega.{arith}
@@ -10,7 +10,12 @@ use lib.ListN.{length, get_or, set, take, drop, length-set, length-drop, replica
 use lib.Seq.{get_or-set_same, get_or-set_other, length-take-le, get_or-take, get_or-drop}
 use lib.Bits.{bit_xor, bit_or}
 use lib.Dec.{eqb}
-use borrow.Author.Tests.{eqb-true, eqb-false}
+use Rattle.std.specs.Prelude.{Option, None, Some, is_some, position, ◌==◌}
+use Rattle.std.specs.List.{position_or_len}
+use Rattle.std.proofs.lemmas.Option.{none-some}
+use Rattle.std.proofs.lemmas.List.Quantifiers.{position-Some}
+use Rattle.std.proofs.lemmas.List.Sums.{fails_before_first}
+use borrow.Author.Tests.{eqb-true, eqb-false, eq-eqb, lt-ltb}
 use Rattle.xor.specs.Xor.{◌⊕◌, xors}
 use Rattle.xor.specs.Runs.{sum_at, changed_by, added_to, Inside, Apart, Beside, Added, Put, Says, Summed, NonzeroAt}
 use Rattle.xor.proofs.Cases.{by_test, by_equal, by_less, clash, and_left, and_right, and_both}
@@ -170,9 +175,9 @@ module _ (f : ℕ → ℕ) where
   abbrev ZeroFrom : ℕ → ℕ → Type 0
   ZeroFrom at n = (t : ℕ) → t < n → f (at + t) ≡ 0
 
-  -- a block from `at` on, where f is zero up to `done`
-  pub zero_more : (at m done : ℕ) → at ≤ done → Zero done → ZeroFrom at m → Zero (at + m)
-  zero_more at m done lo before here t l =
+  -- a block from `at` on up to `end`, where f is zero up to `done`
+  pub zero_more : (at m done end : ℕ) → at ≤ done → at + m ≡ end → Zero done → ZeroFrom at m → Zero end
+  zero_more at m done end lo e before here t l =
       by_less t at (λ w. before t (omega arith)) (λ w. let same : at + (t - at) ≡ t = omega arith in ap f (sym same) ∙ here (t - at) (omega arith))
 
   -- a block that is not zero, or no such block
@@ -185,42 +190,60 @@ module _ (f : ℕ → ℕ) where
   -- what is said up to `done` and what is said of a block, together
   says_more : (at m done : ℕ) (was now : Bool) → at ≤ done → done ≤ at + m → Says (Zero done) was → Says (ZeroFrom at m) now → Says (Zero (at + m)) (was && now)
   says_more at m done was now lo hi before here = record {
-    yes = λ e. zero_more at m done lo (before.yes (and_left was now e)) (here.yes (and_right was now e));
+    yes = λ e. zero_more at m done (at + m) lo refl (before.yes (and_left was now e)) (here.yes (and_right was now e));
     no = λ e all. clash (and_both (said was (λ p. before.no p (λ t l. all t (omega arith)))) (said now (λ p. here.no p (λ t l. all (at + t) (omega arith))))) e;
   }
     where
       said : (b : Bool) → (b ≡ false → ⊥) → b ≡ true
       said b h = by_test b (λ p. p) (λ p. absurd (h p))
 
-  -- ---- a number that is not zero
-
   pub zero_next : (n : ℕ) → Zero n → f n ≡ 0 → Zero (n + 1)
   zero_next n before here t l = by_equal t n (λ e. ap f e ∙ here) (λ e. before t (omega arith))
 
-  pub nonzero_none : (n : ℕ) → Zero n → NonzeroAt f n n
-  nonzero_none n z = record { most = omega arith; some = λ l. absurd (omega arith); none = λ l. z }
+  -- ---- a number that is not zero
 
-  pub nonzero_here : (n r : ℕ) → r < n → f r ≢ 0 → NonzeroAt f n r
-  nonzero_here n r l h = record { most = omega arith; some = λ k. h; none = λ k. absurd (omega arith) }
+  -- none that is not zero, or one
+  pub nonzero_says : (n : ℕ) (found : Option ℕ) (r : Bool) → is_some found ≡ not r → NonzeroAt f n found → Says (Zero n) r
+  nonzero_says n None true e h = zero_all n h
+  nonzero_says n None false e h = clash e refl
+  nonzero_says n (Some i) true e h = clash refl e
+  nonzero_says n (Some i) false e h = record { yes = λ z. clash z refl; no = λ z all. h.1 (all i h.0) }
 
-  -- none, or one
-  pub nonzero_says : (n r : ℕ) → NonzeroAt f n r → Says (Zero n) (eqb r n)
-  nonzero_says n r h = record {
-    yes = λ e. h.none (omega (arith, eqb-true r n e));
-    no = λ e all. by_less r n (λ l. h.some l (all r l)) (λ l. let most = h.most in eqb-false r n e (omega arith));
-  }
+  -- the first that is not zero of some bytes, which are those of f
+  nonzero_first : (bytes : List ℕ) → ((t : ℕ) → t < length bytes → get_or bytes t 0 ≡ f t) → NonzeroAt f (length bytes) (position (λ byte. not (byte == 0)) bytes)
+  nonzero_first bytes same = by_option (position other bytes) refl
+    where
+      other : ℕ → Bool
+      other byte = not (byte == 0)
+
+      zero : (t : ℕ) → other (get_or bytes t 0) ≡ false → get_or bytes t 0 ≡ 0
+      zero t h = by_test (get_or bytes t 0 == 0) (λ p. eqb-true (get_or bytes t 0) 0 p) (λ p. clash (ap not p) h)
+
+      all : position other bytes ≡ None → length bytes ≤ position_or_len other bytes
+      all e = by_less (position_or_len other bytes) (length bytes)
+          (λ l. absurd (none-some _ (sym e ∙ ap (λ (b : Bool). cond b (Some (position_or_len other bytes)) None) (lt-ltb (position_or_len other bytes) (length bytes) l)))) (λ l. l)
+
+      by_option : (r : Option ℕ) → position other bytes ≡ r → NonzeroAt f (length bytes) r
+      by_option None e = λ t l. sym (same t l) ∙ zero t (fails_before_first other bytes t 0 (omega (arith, all e)))
+      by_option (Some i) e =
+          let found = position-Some other bytes i 0 e in
+          (found.0, λ z. clash (found.1) (ap not (eq-eqb (get_or bytes i 0) 0 (same i (found.0) ∙ z))))
+
+  -- the same of n bytes of a block
+  pub nonzero_found : (block : List ℕ) (n : ℕ) → n ≤ length block → ((t : ℕ) → t < n → get_or block t 0 ≡ f t) → NonzeroAt f n (position (λ byte. not (byte == 0)) (take n block))
+  nonzero_found block n few same =
+      subst (λ (k : ℕ). NonzeroAt f k (position (λ byte. not (byte == 0)) (take n block))) (first_long block n few)
+      (nonzero_first (take n block) (λ t l. first_at block n few t l ∙ same t (omega (arith, first_long block n few))))
 
 -- equal numbers are zero in the same places
-pub nonzero_same : (n r : ℕ) (f g : ℕ → ℕ) → ((t : ℕ) → t < n → f t ≡ g t) → NonzeroAt f n r → NonzeroAt g n r
-nonzero_same n r f g e h = record { most = h.most; some = λ l z. h.some l (e r l ∙ z); none = λ l t lt. sym (e t lt) ∙ h.none l t lt }
+pub nonzero_same : (n : ℕ) (r : Option ℕ) (f g : ℕ → ℕ) → ((t : ℕ) → t < n → f t ≡ g t) → NonzeroAt f n r → NonzeroAt g n r
+nonzero_same n None f g e h = λ t l. sym (e t l) ∙ h t l
+nonzero_same n (Some i) f g e h = (h.0, λ z. h.1 (e i h.0 ∙ z))
 
-pub nonzero_on : (f : ℕ → ℕ) (at next n r : ℕ) → NonzeroAt (λ t. f (at + next + t)) n r → NonzeroAt (λ t. f (at + (next + t))) n r
+pub nonzero_on : (f : ℕ → ℕ) (at next n : ℕ) (r : Option ℕ) → NonzeroAt (λ t. f (at + next + t)) n r → NonzeroAt (λ t. f (at + (next + t))) n r
 nonzero_on f at next n r = nonzero_same n r (λ t. f (at + next + t)) (λ t. f (at + (next + t))) (λ t l. ap f (add_assoc at next t))
 
 -- ---- bytes stored in a run
-
-pub put_none : (s : List ℕ) (to : ℕ) (f : ℕ → ℕ) → Put s to 0 f s
-put_none s to f = record { long = refl; inner = λ t l. absurd (omega arith); outer = λ i l. refl }
 
 pub put_more : (s s' : List ℕ) (to n x : ℕ) (f : ℕ → ℕ) → to + n < length s' → Put s to n f s' → x ≡ f n → Put s to (n + 1) f (set s' (to + n) x)
 put_more s s' to n x f l h e = record {
@@ -277,90 +300,71 @@ summed_as s s' to n f r put says = record { put = put; zero = says_zero n f (λ 
 pub summed_same : (s s' : List ℕ) (to n : ℕ) (f g : ℕ → ℕ) (r : Bool) → Summed s to n f s' r → ((t : ℕ) → t < n → f t ≡ g t) → Summed s to n g s' r
 summed_same s s' to n f g r h e = record { put = put_same s s' to n f g h.put e; zero = h.zero }
 
--- a block of a sum, and then a block of another run XORed in
-pub with_block : (sum₀ sum₁ sum₂ s places other : List ℕ) (at from n : ℕ) (r₁ r : Bool)
-    → Summed sum₀ 0 n (λ t. sum_at s places (at + t)) sum₁ r₁ → Summed sum₁ 0 n (added_to sum₁ 0 other (0 ∷ []) from) sum₂ r
-    → Says ((t : ℕ) → t < n → sum_at s places (at + t) ⊕ get_or other (from + t) 0 ≡ 0) r
-unfolding added_to
-with_block sum₀ sum₁ sum₂ s places other at from n r₁ r first second =
-    says_zero n (added_to sum₁ 0 other (0 ∷ []) from) (λ t. sum_at s places (at + t) ⊕ get_or other (from + t) 0) r
-    (λ t l. ap₂ ◌⊕◌ (first.put.inner t l) (one_first other (from + t)))
-    (summed_says sum₁ sum₂ 0 n (added_to sum₁ 0 other (0 ∷ []) from) r second)
-
-pub summed_none : (s : List ℕ) (to : ℕ) (f : ℕ → ℕ) → Summed s to 0 f s true
-summed_none s to f = summed_as s s to 0 f true (put_none s to f) (zero_all f 0 (λ t l. absurd (omega arith)))
-
--- a block from `at` on, where the run was summed up to `done`
-summed_over : (s₀ s s' : List ℕ) (to at m done : ℕ) (f g : ℕ → ℕ) (was now : Bool) → Summed s₀ to done f s was → Summed s (to + at) m g s' now → ((t : ℕ) → t < m → g t ≡ f (at + t))
-    → at ≤ done → done ≤ at + m → Summed s₀ to (at + m) f s' (was && now)
-summed_over s₀ s s' to at m done f g was now h b same lo hi =
-    summed_as s₀ s' to (at + m) f (was && now) (put_over s₀ s s' to at m done f g h.put b.put same lo hi)
-    (says_more f at m done was now lo hi (summed_says s₀ s to done f was h) (says_zero m g (λ t. f (at + t)) now same (summed_says s s' (to + at) m g now b)))
+-- a block from `at` on up to `end`, where the run was summed up to `done`
+summed_over : (s₀ s s' : List ℕ) (to at m done end : ℕ) (f g : ℕ → ℕ) (was now : Bool) → Summed s₀ to done f s was → Summed s (to + at) m g s' now → ((t : ℕ) → t < m → g t ≡ f (at + t))
+    → at ≤ done → done ≤ end → at + m ≡ end → Summed s₀ to end f s' (was && now)
+summed_over s₀ s s' to at m done end f g was now h b same lo hi e =
+    subst (λ (k : ℕ). Summed s₀ to k f s' (was && now)) e
+    (summed_as s₀ s' to (at + m) f (was && now) (put_over s₀ s s' to at m done f g h.put b.put same lo (omega arith))
+    (says_more f at m done was now lo (omega arith) (summed_says s₀ s to done f was h) (says_zero m g (λ t. f (at + t)) now same (summed_says s s' (to + at) m g now b))))
 
 -- a block of a sum: the runs are as they were
-pub summed_apart : (s₀ s s' places : List ℕ) (to at n next m done : ℕ) (was now : Bool)
+pub summed_apart : (s₀ s s' places : List ℕ) (to at n next m done end : ℕ) (was now : Bool)
     → Summed s₀ (to + at) done (λ t. sum_at s₀ places (at + t)) s was → Summed s (to + (at + next)) m (λ t. sum_at s places (at + next + t)) s' now
-    → Apart places to (at + n) → next ≤ done → done ≤ next + m → next + m ≤ n → Summed s₀ (to + at) (next + m) (λ t. sum_at s₀ places (at + t)) s' (was && now)
-summed_apart s₀ s s' places to at n next m done was now h b a lo hi end =
-    summed_over s₀ s s' (to + at) next m done (λ t. sum_at s₀ places (at + t)) (λ t. sum_at s places (at + next + t)) was now h
+    → Apart places to (at + n) → next ≤ done → done ≤ end → next + m ≡ end → end ≤ n → Summed s₀ (to + at) end (λ t. sum_at s₀ places (at + t)) s' (was && now)
+summed_apart s₀ s s' places to at n next m done end was now h b a lo hi e inside =
+    summed_over s₀ s s' (to + at) next m done end (λ t. sum_at s₀ places (at + t)) (λ t. sum_at s places (at + next + t)) was now h
     (subst (λ (k : ℕ). Summed s k m (λ t. sum_at s places (at + next + t)) s' now) (sym (add_assoc to at next)) b)
-    (λ t l. ap (sum_at s places) (add_assoc at next t) ∙ sum_apart s₀ s places to at done n (next + t) (λ i. sum_at s₀ places (at + i)) h.put a (omega arith) (omega arith)) lo hi
+    (λ t l. ap (sum_at s places) (add_assoc at next t) ∙ sum_apart s₀ s places to at done n (next + t) (λ i. sum_at s₀ places (at + i)) h.put a (omega arith) (omega arith)) lo hi e
 
 -- a block of a sum of another list's runs
-pub summed_from : (d₀ d d' s places : List ℕ) (to at next m done : ℕ) (was now : Bool)
+pub summed_from : (d₀ d d' s places : List ℕ) (to at next m done end : ℕ) (was now : Bool)
     → Summed d₀ to done (λ t. sum_at s places (at + t)) d was → Summed d (to + next) m (λ t. sum_at s places (at + next + t)) d' now
-    → next ≤ done → done ≤ next + m → Summed d₀ to (next + m) (λ t. sum_at s places (at + t)) d' (was && now)
-summed_from d₀ d d' s places to at next m done was now h b =
-    summed_over d₀ d d' to next m done (λ t. sum_at s places (at + t)) (λ t. sum_at s places (at + next + t)) was now h b (λ t l. ap (sum_at s places) (add_assoc at next t))
-
--- the same at the start of the other list
-pub summed_start : (d₀ d d' s places : List ℕ) (at next m done : ℕ) (was now : Bool)
-    → Summed d₀ 0 done (λ t. sum_at s places (at + t)) d was → Summed d next m (λ t. sum_at s places (at + next + t)) d' now
-    → next ≤ done → done ≤ next + m → Summed d₀ 0 (next + m) (λ t. sum_at s places (at + t)) d' (was && now)
-summed_start d₀ d d' s places at next m done was now h b =
-    summed_from d₀ d d' s places 0 at next m done was now h (subst (λ (k : ℕ). Summed d k m (λ t. sum_at s places (at + next + t)) d' now) (sym (zero-add next)) b)
+    → next ≤ done → done ≤ end → next + m ≡ end → Summed d₀ to end (λ t. sum_at s places (at + t)) d' (was && now)
+summed_from d₀ d d' s places to at next m done end was now h b =
+    summed_over d₀ d d' to next m done end (λ t. sum_at s places (at + t)) (λ t. sum_at s places (at + next + t)) was now h b (λ t l. ap (sum_at s places) (add_assoc at next t))
 
 -- one block more, where x t is XORed into each byte t: bytes not reached yet are as they were
-summed_next : (s₀ s s' : List ℕ) (to done m : ℕ) (x g : ℕ → ℕ) (was now : Bool) → Summed s₀ to done (λ t. get_or s₀ (to + t) 0 ⊕ x t) s was → Summed s (to + done) m g s' now
-    → ((t : ℕ) → t < m → g t ≡ get_or s (to + (done + t)) 0 ⊕ x (done + t)) → Summed s₀ to (done + m) (λ t. get_or s₀ (to + t) 0 ⊕ x t) s' (was && now)
-summed_next s₀ s s' to done m x g was now h b same =
-    summed_over s₀ s s' to done m done (λ t. get_or s₀ (to + t) 0 ⊕ x t) g was now h b
-    (λ t l. same t l ∙ ap (λ (y : ℕ). y ⊕ x (done + t)) (h.put.outer (to + (done + t)) (inr (omega arith)))) (omega arith) (omega arith)
+summed_next : (s₀ s s' : List ℕ) (to done m end : ℕ) (x g : ℕ → ℕ) (was now : Bool) → Summed s₀ to done (λ t. get_or s₀ (to + t) 0 ⊕ x t) s was → Summed s (to + done) m g s' now
+    → ((t : ℕ) → t < m → g t ≡ get_or s (to + (done + t)) 0 ⊕ x (done + t)) → done + m ≡ end → Summed s₀ to end (λ t. get_or s₀ (to + t) 0 ⊕ x t) s' (was && now)
+summed_next s₀ s s' to done m end x g was now h b same e =
+    summed_over s₀ s s' to done m done end (λ t. get_or s₀ (to + t) 0 ⊕ x t) g was now h b
+    (λ t l. same t l ∙ ap (λ (y : ℕ). y ⊕ x (done + t)) (h.put.outer (to + (done + t)) (inr (omega arith)))) (omega arith) (omega arith) e
 
 -- no runs to XOR in: it is as it was
-pub summed_no_runs : (d s places : List ℕ) (to at n r : ℕ) → length places ≡ 0 → NonzeroAt (λ t. sum_at d (to ∷ []) (0 + t)) n r → Summed d to n (added_to d to s places at) d (eqb r n)
+pub summed_no_runs : (d s places : List ℕ) (to at n : ℕ) (found : Option ℕ) (r : Bool) → length places ≡ 0 → is_some found ≡ not r → NonzeroAt (λ t. sum_at d (to ∷ []) (0 + t)) n found → Summed d to n (added_to d to s places at) d r
 unfolding added_to sum_at
-summed_no_runs d s places to at n r none found = record {
+summed_no_runs d s places to at n found r none e h = record {
   put = record {
     long = refl;
     inner = λ t l. sym (⊕_zero (get_or d (to + t) 0)) ∙ ap (λ (y : ℕ). get_or d (to + t) 0 ⊕ y) (sym (nothing (λ k. get_or s (get_or places k 0 + (at + t)) 0)));
     outer = λ i side. refl;
   };
-  zero = says_zero n (λ t. sum_at d (to ∷ []) (0 + t)) (λ t. get_or d (to + t) 0) (eqb r n) (λ t l. one_sum d to (0 + t) ∙ ap (λ (i : ℕ). get_or d (to + i) 0) (zero-add t))
-      (nonzero_says (λ t. sum_at d (to ∷ []) (0 + t)) n r found);
+  zero = says_zero n (λ t. sum_at d (to ∷ []) (0 + t)) (λ t. get_or d (to + t) 0) r (λ t l. one_sum d to (0 + t) ∙ ap (λ (i : ℕ). get_or d (to + i) 0) (zero-add t))
+      (nonzero_says (λ t. sum_at d (to ∷ []) (0 + t)) n found r e h);
 }
   where
     nothing : (f : ℕ → ℕ) → xors (length places) f ≡ 0
     nothing f = ap (λ (k : ℕ). xors k f) none ∙ xors_none f
 
 -- a block of a sum XORed into another list
-pub summed_added : (d₀ d d' s places : List ℕ) (to at done m : ℕ) (was now : Bool)
+pub summed_added : (d₀ d d' s places : List ℕ) (to at done m end : ℕ) (was now : Bool)
     → Summed d₀ to done (added_to d₀ to s places at) d was → Summed d (to + done) m (added_to d (to + done) s places (at + done)) d' now
-    → Summed d₀ to (done + m) (added_to d₀ to s places at) d' (was && now)
+    → done + m ≡ end → Summed d₀ to end (added_to d₀ to s places at) d' (was && now)
 unfolding added_to
-summed_added d₀ d d' s places to at done m was now h b =
-    summed_next d₀ d d' to done m (λ t. sum_at s places (at + t)) (added_to d (to + done) s places (at + done)) was now h b
+summed_added d₀ d d' s places to at done m end was now h b =
+    summed_next d₀ d d' to done m end (λ t. sum_at s places (at + t)) (added_to d (to + done) s places (at + done)) was now h b
     (λ t l. ap₂ (λ (i k : ℕ). get_or d i 0 ⊕ sum_at s places k) (add_assoc to done t) (add_assoc at done t))
 
 -- a block of a difference: the bytes that it is made of are as they were
-pub summed_difference : (s₀ s s' new : List ℕ) (to from n at m : ℕ) (was now : Bool)
+pub summed_difference : (s₀ s s' new : List ℕ) (to from n at m end : ℕ) (was now : Bool)
     → Summed s₀ to at (changed_by s₀ to from new) s was → Summed s (to + at) m (λ t. changed_by s to from new (at + t)) s' now
-    → Beside to from n → at + m ≤ n → Summed s₀ to (at + m) (changed_by s₀ to from new) s' (was && now)
+    → Beside to from n → at + m ≡ end → end ≤ n → Summed s₀ to end (changed_by s₀ to from new) s' (was && now)
 unfolding changed_by
-summed_difference s₀ s s' new to from n at m was now h b side end =
-    summed_next s₀ s s' to at m (λ t. get_or s₀ (from + t) 0 ⊕ get_or new t 0) (λ t. changed_by s to from new (at + t)) was now h b
+summed_difference s₀ s s' new to from n at m end was now h b side e inside =
+    summed_next s₀ s s' to at m end (λ t. get_or s₀ (from + t) 0 ⊕ get_or new t 0) (λ t. changed_by s to from new (at + t)) was now h b
     (λ t l. ap (λ (y : ℕ). get_or s (to + (at + t)) 0 ⊕ (y ⊕ get_or new (at + t) 0))
-    (h.put.outer (from + (at + t)) (⊎_elim (λ w. inl (omega arith)) (λ w. inr (omega arith)) side)))
+    (h.put.outer (from + (at + t)) (⊎_elim (λ w. inl (omega arith)) (λ w. inr (omega arith)) side))) e
 
 -- a block that is all zeros before anything is XORed in
 pub from_zero : (r : List ℕ) (n : ℕ) (f : ℕ → ℕ) → n ≤ 128 → Added (replicate 128 0) n f r → (t : ℕ) → t < n → get_or r t 0 ≡ f t

@@ -1,5 +1,5 @@
 -- Runs of bytes in a slice: a run is given by the place of its first byte.
-use Rattle.std.specs.Prelude.{◌≡◌, ◌≢◌, ◌⊎◌, List, Bool, true, false, ℕ, ◌+◌, ◌≤◌, ◌<◌, length, get_or}
+use Rattle.std.specs.Prelude.{◌≡◌, ◌≢◌, ◌⊎◌, List, Bool, true, false, Option, MatchOption, ℕ, ◌+◌, ◌≤◌, ◌<◌, length, get_or}
 use Rattle.xor.specs.Xor.{◌⊕◌, xors}
 
 -- the XOR of the bytes t past each place
@@ -48,8 +48,6 @@ pub record Summed (s : List ℕ) (to n : ℕ) (f : ℕ → ℕ) (s' : List ℕ) 
   pub put : Put s to n f s'
   pub zero : Says ((t : ℕ) → t < n → get_or s' (to + t) 0 ≡ 0) r
 
--- r is below n and f is not zero at it, or r is n and f is zero below n
-pub record NonzeroAt (f : ℕ → ℕ) (n r : ℕ) : Type 0 where
-  pub most : r ≤ n
-  pub some : r < n → f r ≢ 0
-  pub none : n ≤ r → (t : ℕ) → t < n → f t ≡ 0
+-- r is some number below n at which f is not zero, or none, and f is zero below n
+abbrev pub NonzeroAt : (ℕ → ℕ) → ℕ → Option ℕ → Type 0
+NonzeroAt f n r = MatchOption r ((t : ℕ) → t < n → f t ≡ 0) (λ i. (i < n) × (f i ≢ 0))

@@ -1,5 +1,5 @@
 -- Shapes and answers in numbers: any two answers that an exported function may give are equal, since any two of the Rattle call are.
-use mathlib.Core.Path.{◌≡◌, refl, sym, ap, ◌∙◌, subst}
+use mathlib.Core.Path.{◌≡◌, sym, ap, ◌∙◌, subst}
 use mathlib.Core.List.{List}
 use Prim.Native.Nat.{ℕ}
 use Rattle.codes.specs.declared.Shape.{Shape}
@@ -24,10 +24,6 @@ use Rattle.zijraduf.specs.declared.Part.{Part}
 use Rattle.zijraduf.specs.Export.{shape_from, Told, InNumbers, count_in_numbers, found_in_numbers, plan_in_numbers, shown_in_numbers}
 
 module _ {A B : Type 0} (numbers : A → B) where
-  -- the numbers of a case of what the call answered
-  pub in_numbers : (Allowed : A → Type 0) (answer given : A) → Allowed answer → answer ≡ given → InNumbers numbers Allowed (numbers given)
-  in_numbers Allowed answer given h e = record { given = given; allowed = subst Allowed e h; is = refl }
-
   same_numbers : (P Q : A → Type 0) (a b : B) (ha : InNumbers numbers P a) (hb : InNumbers numbers Q b) → ha.given ≡ hb.given → a ≡ b
   same_numbers P Q a b ha hb same = ha.is ∙ ap numbers same ∙ sym hb.is
 

@@ -2,6 +2,7 @@
 #![tactic(auto)]
 
 ghost use Rattle.std.specs.Prelude.{◌≡◌, length};
+ghost use Rattle.refusals.specs.Number.{number};
 ghost use Rattle.stripe.specs.Encode.{Encodes};
 ghost use Rattle.stripe.specs.Broken.{Counts};
 ghost use Rattle.stripe.specs.Write.{Writes};
@@ -15,9 +16,10 @@ ghost use Rattle.rebuild.specs.Rebuild.{RebuildsCells, RebuildsColumns};
 ghost use Rattle.zijraduf.specs.Export.{shape_from, Told, InNumbers, count_in_numbers, found_in_numbers, plan_in_numbers, shown_in_numbers};
 
 use bad::BadColumn;
-use codes::{Counted, Shape, Width};
+use codes::Shape;
+use plan::ReadPlan;
+use refusals::Refusal;
 use show::ShownAt;
-use spare::PlanAnswer;
 
 // What describes a stripe, in numbers: its code, its prime, the bytes in a cell, and a number m of data columns, where `given` is not 0.
 #[repr(C)]
@@ -66,54 +68,115 @@ pub struct Part {
     pub length: usize,
 }
 
-// The shape that the numbers describe.
-fn shape_from(numbers: ShapeNumbers) -> Shape
-    ensures { result ≡ shape_from numbers }
-{
-    let code = numbers.code;
-    let p = numbers.p;
-    let cell = numbers.cell;
-    if numbers.given == 0 {
-        return Shape {
-            code,
-            p,
-            cell,
-            width: Width::Full,
-        };
-    }
-    Shape {
-        code,
-        p,
-        cell,
-        width: Width::Data(numbers.m),
+impl From<ShapeNumbers> for Shape {
+    ghost from_gives = { λ numbers shape. shape ≡ shape_from numbers };
+
+    fn from(numbers: ShapeNumbers) -> Shape {
+        Shape {
+            code: numbers.code,
+            p: numbers.p,
+            cell: numbers.cell,
+            width: (numbers.given != 0).then_some(numbers.m),
+        }
     }
 }
 
-// A count or a refusal in two numbers.
-fn in_numbers(answer: Counted) -> Count
-    ensures { result ≡ count_in_numbers answer }
-{
-    match answer {
-        Counted::Count(count) => Count { refusal: 0, count },
-        Counted::Refused(refusal) => Count { refusal, count: 0 },
+impl From<Result<usize, Refusal>> for Count {
+    ghost from_gives = { λ answer count. count ≡ count_in_numbers answer };
+
+    fn from(answer: Result<usize, Refusal>) -> Count {
+        match answer {
+            Ok(count) => Count { refusal: 0, count },
+            Err(refusal) => Count {
+                refusal: refusal.into(),
+                count: 0,
+            },
+        }
     }
 }
 
-// A plan or a refusal in three numbers.
-fn plan_in_numbers(answer: PlanAnswer) -> Planned
-    ensures { result ≡ plan_in_numbers answer }
+impl From<Result<BadColumn, Refusal>> for Found {
+    ghost from_gives = { λ answer found. found ≡ found_in_numbers answer };
+
+    fn from(answer: Result<BadColumn, Refusal>) -> Found {
+        match answer {
+            Ok(BadColumn::Clean) => Found {
+                refusal: 0,
+                finding: 1,
+                column: 0,
+            },
+            Ok(BadColumn::Column(column)) => Found {
+                refusal: 0,
+                finding: 2,
+                column,
+            },
+            Ok(BadColumn::Unexplained) => Found {
+                refusal: 0,
+                finding: 3,
+                column: 0,
+            },
+            Err(refusal) => Found {
+                refusal: refusal.into(),
+                finding: 0,
+                column: 0,
+            },
+        }
+    }
+}
+
+impl From<Result<ReadPlan, Refusal>> for Planned {
+    ghost from_gives = { λ answer planned. planned ≡ plan_in_numbers answer };
+
+    fn from(answer: Result<ReadPlan, Refusal>) -> Planned {
+        match answer {
+            Ok(plan) => Planned {
+                refusal: 0,
+                rows: plan.rows,
+                reads: plan.reads,
+            },
+            Err(refusal) => Planned {
+                refusal: refusal.into(),
+                rows: 0,
+                reads: 0,
+            },
+        }
+    }
+}
+
+// Where a cell of this shape lies, or a refusal, in four numbers. No `From`: the length is the shape's.
+fn part_from(shape: Shape, answer: Result<ShownAt, Refusal>) -> Part
+    ensures { result ≡ shown_in_numbers shape answer }
 {
+    let length = shape.cell;
     match answer {
-        PlanAnswer::Plan(plan) => Planned {
+        Ok(ShownAt::Stripe(offset)) => Part {
             refusal: 0,
-            rows: plan.rows,
-            reads: plan.reads,
+            buffer: 1,
+            offset,
+            length,
         },
-        PlanAnswer::Refused(refusal) => Planned {
-            refusal,
-            rows: 0,
-            reads: 0,
+        Ok(ShownAt::Spare(offset)) => Part {
+            refusal: 0,
+            buffer: 2,
+            offset,
+            length,
         },
+        Err(refusal) => Part {
+            refusal: refusal.into(),
+            buffer: 0,
+            offset: 0,
+            length: 0,
+        },
+    }
+}
+
+// The number of an answer: 0, or that of the refusal. No `From`: both types are of others.
+fn number(answer: Result<(), Refusal>) -> usize
+    ensures { result ≡ number answer }
+{
+    match answer {
+        Ok(()) => 0,
+        Err(refusal) => refusal.into(),
     }
 }
 
@@ -122,7 +185,7 @@ fn plan_in_numbers(answer: PlanAnswer) -> Planned
 pub extern "C" fn zijraduf_encode(shape: ShapeNumbers, stripe: &mut [u8]) -> usize
     ensures { Told shape (λ s. Encodes s stripe.old result stripe.new) }
 {
-    stripe::encode(shape_from(shape), stripe)
+    number(stripe::encode(shape.into(), stripe))
 }
 
 // Broken.
@@ -130,7 +193,7 @@ pub extern "C" fn zijraduf_encode(shape: ShapeNumbers, stripe: &mut [u8]) -> usi
 pub extern "C" fn zijraduf_broken(shape: ShapeNumbers, stripe: &[u8]) -> Count
     ensures { Told shape (λ s. InNumbers count_in_numbers (Counts s stripe.now) result) }
 {
-    in_numbers(stripe::broken(shape_from(shape), stripe))
+    stripe::broken(shape.into(), stripe).into()
 }
 
 // Small write.
@@ -145,7 +208,7 @@ pub extern "C" fn zijraduf_write(
     ensures { Told shape (λ s. InNumbers count_in_numbers (Writes s row column bytes.now stripe.old
         stripe.new) result) }
 {
-    in_numbers(stripe::write(shape_from(shape), stripe, row, column, bytes))
+    stripe::write(shape.into(), stripe, row, column, bytes).into()
 }
 
 // Rebuild cells.
@@ -157,7 +220,7 @@ pub extern "C" fn zijraduf_rebuild_cells(
 ) -> usize
     ensures { Told shape (λ s. RebuildsCells s lost.now stripe.old result stripe.new) }
 {
-    rebuild::cells(shape_from(shape), stripe, lost)
+    number(rebuild::cells(shape.into(), stripe, lost))
 }
 
 // Rebuild columns.
@@ -170,7 +233,7 @@ pub extern "C" fn zijraduf_rebuild_columns(
 ) -> usize
     ensures { Told shape (λ s. RebuildsColumns s a b stripe.old result stripe.new) }
 {
-    rebuild::columns(shape_from(shape), stripe, a, b)
+    number(rebuild::columns(shape.into(), stripe, a, b))
 }
 
 // Bad column.
@@ -178,28 +241,7 @@ pub extern "C" fn zijraduf_rebuild_columns(
 pub extern "C" fn zijraduf_bad_column(shape: ShapeNumbers, stripe: &[u8]) -> Found
     ensures { Told shape (λ s. InNumbers found_in_numbers (Finds s stripe.now) result) }
 {
-    match bad::bad_column(shape_from(shape), stripe) {
-        BadColumn::Clean => Found {
-            refusal: 0,
-            finding: 1,
-            column: 0,
-        },
-        BadColumn::Column(column) => Found {
-            refusal: 0,
-            finding: 2,
-            column,
-        },
-        BadColumn::Unexplained => Found {
-            refusal: 0,
-            finding: 3,
-            column: 0,
-        },
-        BadColumn::Refused(refusal) => Found {
-            refusal,
-            finding: 0,
-            column: 0,
-        },
-    }
+    bad::bad_column(shape.into(), stripe).into()
 }
 
 // Plan.
@@ -207,7 +249,7 @@ pub extern "C" fn zijraduf_bad_column(shape: ShapeNumbers, stripe: &[u8]) -> Fou
 pub extern "C" fn zijraduf_plan(shape: ShapeNumbers, k: usize) -> Planned
     ensures { Told shape (λ s. InNumbers plan_in_numbers (Plans s k) result) }
 {
-    plan_in_numbers(spare::plan(shape_from(shape), k))
+    plan::plan(shape.into(), k).into()
 }
 
 // Balanced plan.
@@ -215,7 +257,7 @@ pub extern "C" fn zijraduf_plan(shape: ShapeNumbers, k: usize) -> Planned
 pub extern "C" fn zijraduf_balanced_plan(shape: ShapeNumbers, k: usize) -> Planned
     ensures { Told shape (λ s. InNumbers plan_in_numbers (Balances s k) result) }
 {
-    plan_in_numbers(balance::balanced_plan(shape_from(shape), k))
+    balance::balanced_plan(shape.into(), k).into()
 }
 
 // Run by plan.
@@ -232,7 +274,7 @@ pub extern "C" fn zijraduf_run(
     ensures { Told shape (λ s. InNumbers count_in_numbers (RunsByPlan s k plan first budget stripe.now spare.old
         spare.new) result) }
 {
-    in_numbers(spare::run(shape_from(shape), stripe, k, plan, spare, first, budget))
+    spare::run(shape.into(), stripe, k, plan, spare, first, budget).into()
 }
 
 // Show.
@@ -249,28 +291,11 @@ pub extern "C" fn zijraduf_show(
     ensures { Told shape (λ s. InNumbers (shown_in_numbers s) (Shown s (length stripe.now)
         (length spare.now) k done row column) result) }
 {
-    let told = shape_from(shape);
-    let length = told.cell;
-    match show::shown_at(told, stripe.len(), spare.len(), k, done, row, column) {
-        ShownAt::Stripe(offset) => Part {
-            refusal: 0,
-            buffer: 1,
-            offset,
-            length,
-        },
-        ShownAt::Spare(offset) => Part {
-            refusal: 0,
-            buffer: 2,
-            offset,
-            length,
-        },
-        ShownAt::Refused(refusal) => Part {
-            refusal,
-            buffer: 0,
-            offset: 0,
-            length: 0,
-        },
-    }
+    let shape = Shape::from(shape);
+    part_from(
+        shape,
+        show::shown_at(shape, stripe.len(), spare.len(), k, done, row, column),
+    )
 }
 
 // Job.

@@ -19,7 +19,7 @@ pub without_column-rest-requires : goal.without_column-rest-requires
 without_column-rest-requires c = (c.requires, subst (λ (j : ℕ). j < columns c.args.shape) (sym c.column_of.ensures) (column_there c.args.shape c.requires _ (omega (arith, c.disk_count-disks.ensures))))
 
 pub loop-q-init : goal.loop-q-init
-loop-q-init c = (λ k l. absurd (omega arith), omega arith, refl)
+loop-q-init c = (λ k l. absurd (omega arith), refl)
 
 pub bounds-rest-q : goal.bounds-rest-q
 bounds-rest-q c = omega (arith, c.equation_count-equations.ensures, small_equations c.args.shape c.requires)
@@ -37,7 +37,7 @@ columns-preserved c =
     )
 
 pub loop-q-preserved : goal.loop-q-preserved
-loop-q-preserved c = (zero_next _ _ c.loop-q.invariant.0 c.if-rest-q-ne0.false, omega arith, c.loop-q.invariant.2)
+loop-q-preserved c = (zero_next _ _ c.loop-q.invariant.0 c.if-rest-q-ne0.false, c.loop-q.invariant.1)
 
 pub returns-then-d-disks : goal.returns-then-d-disks
 returns-then-d-disks c = candidate_none _ _ _ (c.if-d-disks.true ∙ c.disk_count-disks.ensures) c.columns.invariant.0
@@ -46,5 +46,5 @@ pub returns-after-loop-q : goal.returns-after-loop-q
 returns-after-loop-q c =
     let turn = c.columns in
     let inside : turn.d < disks c.args.shape = omega (arith, c.disk_count-disks.ensures) in
-    candidate_here c.args.shape c.requires turn.d inside _ c.column_of.ensures _ _ c.without_column-rest.ensures _ c.loop-q.invariant.2
+    candidate_here c.args.shape c.requires turn.d inside _ c.column_of.ensures _ _ c.without_column-rest.ensures _ c.loop-q.invariant.1
     (λ q l. c.loop-q.invariant.0 q (omega (arith, c.equation_count-equations.ensures)))

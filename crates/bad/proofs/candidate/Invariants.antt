@@ -8,10 +8,7 @@ use Rattle.bad.proofs.Explained.{NoneBelow}
 use Rattle.bad.proofs.candidate.Given as goal
 
 abbrev pub invariant-loop-q : goal.invariant-loop-q
-invariant-loop-q l = Zero (λ k. get_or l.rest k 0) l.q × (l.q ≤ l.equations) × (l.d ≡ l.initial.d)
-
-abbrev pub decreases-loop-q : goal.decreases-loop-q
-decreases-loop-q l = l.equations - l.q
+invariant-loop-q l = Zero (λ k. get_or l.rest k 0) l.q × (l.d ≡ l.initial.d)
 
 abbrev pub invariant-columns : goal.invariant-columns
 invariant-columns l = NoneBelow l.shape l.totals l.d × (l.d ≤ l.disks)

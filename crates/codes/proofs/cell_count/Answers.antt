@@ -5,6 +5,3 @@ use Rattle.codes.proofs.cell_count.Goals as goal
 
 pub overflow_mul-result : goal.overflow_mul-result
 overflow_mul-result c = omega (arith, existing_of c.args.shape _ _ c.disk_count.ensures c.row_count.ensures, existing_high c.args.shape c.requires, cells_high c.args.shape c.requires)
-
-pub returns : goal.returns
-returns c = existing_of c.args.shape _ _ c.disk_count.ensures c.row_count.ensures

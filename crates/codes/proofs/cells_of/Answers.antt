@@ -3,4 +3,4 @@ use Rattle.codes.proofs.Walked.{holding}
 use Rattle.codes.proofs.cells_of.Goals as goal
 
 pub returns : goal.returns
-returns c = holding c.args.shape c.requires.0 _ c.requires.1 _ _ c.sources_of-from.ensures
+returns c = holding c.args.shape c.requires.0 _ c.requires.1 _ _ c.sources_of-to.ensures

@@ -5,6 +5,3 @@ use Rattle.codes.proofs.parity_place.Goals as goal
 
 pub overflow_mul-result : goal.overflow_mul-result
 overflow_mul-result c = omega (arith, parity_at c.args.shape c.requires.0 c.args.q c.requires.1 _ c.parity_number.ensures, parity_small c.args.shape c.requires.0 c.args.q c.requires.1)
-
-pub returns : goal.returns
-returns c = parity_at c.args.shape c.requires.0 c.args.q c.requires.1 _ c.parity_number.ensures

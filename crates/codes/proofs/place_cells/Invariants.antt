@@ -1,10 +1,6 @@
 -- `codes::place_cells` meets its contract. The loop's invariant: the first k places are filled in, and the code stands at cell k.
-use Prim.Native.Nat.{◌-◌, ◌≤◌}
 use Rattle.codes.proofs.Walked.{line, Filled}
 use Rattle.codes.proofs.place_cells.Given as goal
 
 abbrev pub invariant-loop-k : goal.invariant-loop-k
-invariant-loop-k l = (l.k ≤ l.count) × Filled (line l.initial.at l.step l.turn l.second) l.count l.places l.at l.k
-
-abbrev pub decreases-loop-k : goal.decreases-loop-k
-decreases-loop-k l = l.count - l.k
+invariant-loop-k l = Filled (line l.initial.at l.step l.l.turn l.second) l.l.count l.places l.at l.k

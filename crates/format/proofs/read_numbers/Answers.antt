@@ -1,47 +1,20 @@
--- `format::read_numbers` meets its contract. Fields 01 and 02 have one byte, so field 03 or what follows starts at the ninth.
-use native.Mathlib.Omega.{arith}
-use Rattle.format.specs.Places.{FieldAt}
-use Rattle.format.proofs.Reading.{code_lies, p_lies, begins_given, begins_absent}
+-- `format::read_numbers` meets its contract.
+use mathlib.Core.Path.{refl}
+use Rattle.format.proofs.Reading.{code_first, p_first, begins_given, begins_absent}
 use Rattle.format.proofs.read_numbers.Goals as goal
+use Rattle.format.proofs.read_numbers.Goals.{in-Some, in-None}
 
-pub returns-then-not-has_field : goal.returns-then-not-has_field
-returns-then-not-has_field c = λ j e. c.has_field.ensures.none c.if-not-has_field.true (code_lies _ j e).there
+pub returns-in_err-code : goal.returns-in_err-code
+returns-in_err-code c = rw c.from_residual.ensures (λ j e. c.in_err-code.ensures _ _ refl (code_first _ j e))
 
-pub has_field-requires-2 : goal.has_field-requires-2
-has_field-requires-2 c =
-    let first : FieldAt c.args.input.now 0 1 1 = c.has_field.ensures.there c.if-not-has_field.false in
-    omega (arith, (first).inside)
+pub returns-in_err-p : goal.returns-in_err-p
+returns-in_err-p c = rw c.from_residual-in_err-p.ensures (λ j e. c.in_err-p.ensures _ _ refl (p_first _ j e _ _ c.in_ok-code.ensures.0))
 
-pub returns-then-not-has_field-2 : goal.returns-then-not-has_field-2
-returns-then-not-has_field-2 c = λ j e. c.has_field-2.ensures.none c.if-not-has_field-2.true (p_lies _ j e).there
-
-pub bounds-input-3 : goal.bounds-input-3
-bounds-input-3 c =
-    let second : FieldAt c.args.input.now 4 2 1 = c.has_field-2.ensures.there c.if-not-has_field-2.false in
-    omega (arith, (second).inside)
-
-pub bounds-input-7 : goal.bounds-input-7
-bounds-input-7 c =
-    let second : FieldAt c.args.input.now 4 2 1 = c.has_field-2.ensures.there c.if-not-has_field-2.false in
-    omega (arith, (second).inside)
-
-pub has_field-requires-3 : goal.has_field-requires-3
-has_field-requires-3 c =
-    let second : FieldAt c.args.input.now 4 2 1 = c.has_field-2.ensures.there c.if-not-has_field-2.false in
-    omega (arith, (second).inside)
-
-pub two_bytes-cell-requires : goal.two_bytes-cell-requires
-two_bytes-cell-requires c = omega (arith, (c.has_field-3.ensures.there c.if-has_field.true).inside)
-
-pub returns-then-has_field : goal.returns-then-has_field
-returns-then-has_field c =
-    let first : FieldAt c.args.input.now 0 1 1 = c.has_field.ensures.there c.if-not-has_field.false in
-    let second : FieldAt c.args.input.now 4 2 1 = c.has_field-2.ensures.there c.if-not-has_field-2.false in
-    let third = c.has_field-3.ensures.there c.if-has_field.true in
-    begins_given _ (first) (second) third _ c.two_bytes-cell.ensures.0
-
-pub returns-else-has_field : goal.returns-else-has_field
-returns-else-has_field c =
-    let first : FieldAt c.args.input.now 0 1 1 = c.has_field.ensures.there c.if-not-has_field.false in
-    let second : FieldAt c.args.input.now 4 2 1 = c.has_field-2.ensures.there c.if-not-has_field-2.false in
-    begins_absent _ (first) (second) (c.has_field-3.ensures.none c.if-has_field.false)
+pub returns : goal.returns
+returns c =
+    let first = c.in_ok-code.ensures in
+    let second = c.in_ok-p.ensures in
+    elim c.match-find_sized.branch [
+      | in-Some w ↦ rw w.cell-is (rw c.from.ensures (rw c.from-2.ensures (begins_given _ _ _ _ _ first.0 second.0 first.1 second.1 _ _ w.in-Some.ensures.0 _ w.two_bytes.ensures.0)))
+      | in-None w ↦ rw w.cell-is (rw c.from.ensures (rw c.from-2.ensures (begins_absent _ _ _ _ _ first.0 second.0 first.1 second.1 w.in-None.ensures)))
+    ]

@@ -1,11 +1,10 @@
 -- `jobs::answer_size` meets its contract.
-use mathlib.Core.Path.{sym}
 use native.Mathlib.Omega.{arith}
-use Rattle.jobs.proofs.Storing.{length_done, length_refused}
+use Rattle.jobs.proofs.Storing.{size_given, size_refused}
 use Rattle.jobs.proofs.answer_size.Goals as goal
 
-pub returns-then-answer-ne0 : goal.returns-then-answer-ne0
-returns-then-answer-ne0 c = sym (length_refused _ c.args.stripe.now c.if-answer-ne0.true)
+pub returns-in-Ok : goal.returns-in-Ok
+returns-in-Ok c = omega (arith, size_given _ _ c.in-Ok.is)
 
-pub returns-else-answer-ne0 : goal.returns-else-answer-ne0
-returns-else-answer-ne0 c = omega (arith, length_done c.args.answer c.args.stripe.now c.if-answer-ne0.false)
+pub returns-in-Err : goal.returns-in-Err
+returns-in-Err c = omega (arith, size_refused _ _ c.in-Err.is)

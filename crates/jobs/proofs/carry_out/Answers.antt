@@ -1,14 +1,12 @@
--- `jobs::carry_out` meets its contract. What the rebuild answers is one byte.
-use native.Mathlib.Omega.{arith}
-use Rattle.jobs.proofs.Answering.{answer_small, answers_job}
+-- `jobs::carry_out` meets its contract. The job that was read is answered as the rebuild of its lost cells is.
+use mathlib.Core.Path.{subst}
+use Rattle.format.specs.Reading.{Reads}
+use Rattle.jobs.proofs.Answering.{answers_given, answers_refused}
 use Rattle.jobs.proofs.carry_out.Goals as goal
 
-pub write_answer-requires : goal.write_answer-requires
-write_answer-requires c =
-    let job = c.requires.0 in
-    (answer_small _ _ _ _ _ (c.rebuild_job-answer.ensures job.0 job.1), omega (arith, job.1.bytes, job.1.fits.short))
+pub returns-in_err-rebuild_job : goal.returns-in_err-rebuild_job
+returns-in_err-rebuild_job c =
+    answers_refused _ _ (subst (Reads c.args.input.now) c.in_ok-f.ensures.ok_part c.read_job.ensures) _ _ c.in_err-rebuild_job.ensures _ c.from_residual-in_err-rebuild_job.ensures.1
 
 pub returns : goal.returns
-returns c =
-    let job = c.requires.0 in
-    answers_job _ _ _ _ job.1 _ _ _ _ (c.rebuild_job-answer.ensures job.0 job.1) c.write_answer.ensures
+returns c = answers_given _ _ (subst (Reads c.args.input.now) c.in_ok-f.ensures.ok_part c.read_job.ensures) _ c.in_ok-rebuild_job.ensures

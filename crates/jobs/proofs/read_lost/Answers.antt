@@ -1,13 +1,17 @@
 -- `jobs::read_lost` meets its contract. The loop's invariant: the first k numbers are listed.
+use mathlib.Core.Path.{◌∙◌}
 use native.Mathlib.Omega.{arith}
-use Rattle.jobs.proofs.LostNumbers.{lists_none, lists_more, lists_all}
+use lib.ListN.{length-set}
+use Rattle.jobs.proofs.LostNumbers.{listed_none, listed_more, listed_all}
 use Rattle.jobs.proofs.read_lost.Goals as goal
 
 pub loop-k-init : goal.loop-k-init
-loop-k-init c = (omega arith, lists_none _ _ _ c.requires.2)
+loop-k-init c = record { long = c.requires.1; says = listed_none }
 
 pub loop-k-preserved : goal.loop-k-preserved
-loop-k-preserved c = (omega arith, lists_more _ _ _ c.loop-k.k _ (omega arith) c.loop-k.invariant.1 c.two_bytes.ensures.0)
+loop-k-preserved c =
+    let before = c.loop-k.invariant in
+    record { long = length-set c.loop-k.lost c.loop-k.k _ ∙ before.long; says = listed_more _ _ _ _ c.loop-k-test.true (omega arith) before.says c.two_bytes.ensures.0 }
 
 pub returns : goal.returns
-returns c = lists_all _ _ _ c.loop-k.k c.args.count (omega arith) c.loop-k.invariant.1
+returns c = record { long = c.loop-k.invariant.long; says = listed_all _ _ c.loop-k.k (omega arith) c.loop-k.invariant.says }

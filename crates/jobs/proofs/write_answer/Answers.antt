@@ -1,19 +1,19 @@
--- `jobs::write_answer` meets its contract. Without room nothing is stored; with room field 06, and after 0 field 05.
+-- `jobs::write_answer` meets its contract. Without room nothing is stored; with room field 06, and field 05 after 0.
 use native.Mathlib.Omega.{arith}
-use Rattle.jobs.proofs.Storing.{writes_nothing, writes_stored, first_fits, length_done, stored_done, stored_refused}
+use Rattle.jobs.proofs.Storing.{size_given, size_refused, written_given, written_refused}
 use Rattle.jobs.proofs.write_answer.Goals as goal
 
-pub returns-then-output-size : goal.returns-then-output-size
-returns-then-output-size c = writes_nothing _ _ _ c.answer_size-size.ensures (omega arith)
-
 pub put_field-requires : goal.put_field-requires
-put_field-requires c = (omega arith, omega (arith, first_fits c.args.answer c.args.stripe.now))
+put_field-requires c = (omega arith, omega (arith, size_given _ _ c.in-Ok.is))
 
-pub put_field-requires-then-answer-eq0 : goal.put_field-requires-then-answer-eq0
-put_field-requires-then-answer-eq0 c = (omega arith, omega (arith, length_done c.args.answer c.args.stripe.now (omega arith)))
+pub put_field-requires-in-Ok : goal.put_field-requires-in-Ok
+put_field-requires-in-Ok c = let size = size_given _ _ c.in-Ok.is in (omega (arith, size), omega (arith, size))
 
-pub returns-then-answer-eq0 : goal.returns-then-answer-eq0
-returns-then-answer-eq0 c = writes_stored _ _ _ _ c.answer_size-size.ensures (omega arith) (stored_done _ _ _ c.args.stripe.now _ (omega arith) c.put_field.ensures c.put_field-then-answer-eq0.ensures)
+pub put_field-requires-in-Err : goal.put_field-requires-in-Err
+put_field-requires-in-Err c = (omega arith, omega (arith, size_refused _ _ c.in-Err.is))
 
-pub returns-else-answer-eq0 : goal.returns-else-answer-eq0
-returns-else-answer-eq0 c = writes_stored _ _ _ _ c.answer_size-size.ensures (omega arith) (stored_refused _ _ c.args.stripe.now _ c.if-answer-eq0.false c.put_field.ensures)
+pub returns-in-Ok : goal.returns-in-Ok
+returns-in-Ok c = written_given _ _ c.in-Ok.is _ _ _ _ c.answer_size-size.ensures c.if-output-size.false c.put_field.ensures c.put_field-in-Ok.ensures
+
+pub returns-in-Err : goal.returns-in-Err
+returns-in-Err c = written_refused _ _ c.in-Err.is _ _ _ _ c.from.ensures c.answer_size-size.ensures c.if-output-size.false c.put_field-in-Err.ensures

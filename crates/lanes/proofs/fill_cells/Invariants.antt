@@ -1,12 +1,8 @@
--- `lanes::fill_cells` meets its contract. The loop's invariant: the first k lost cells are mended in this lane.
-use mathlib.Core.Path.{◌≡◌}
-use Prim.Native.Nat.{◌+◌, ◌-◌, ◌≤◌}
-use lib.ListN.{length}
+-- `lanes::fill_cells` meets its contract. The loop's invariant: the lost cells so far are mended in this lane.
+use Prim.Native.Nat.{◌+◌}
+use Rattle.decide.specs.Solver.{cells_of, sets_of}
 use Rattle.lanes.specs.Lanes.{Filled}
 use Rattle.lanes.proofs.fill_cells.Given as goal
 
-abbrev pub invariant-loop-k : goal.invariant-loop-k
-invariant-loop-k l = (l.k ≤ l.lost) × (length l.places ≡ 64) × Filled l.shape l.listed l.sets l.k l.at (l.at + l.n) l.initial.stripe l.stripe
-
-abbrev pub decreases-loop-k : goal.decreases-loop-k
-decreases-loop-k l = l.lost - l.k
+abbrev pub invariant-loop-one : goal.invariant-loop-one
+invariant-loop-one l = Filled l.way.shape (cells_of l.way.lost.now) (sets_of l.way.lost.now) l.one-index l.at (l.at + l.n) l.initial.stripe l.stripe

@@ -7,7 +7,7 @@ use Rattle.equation.proofs.Windows.{new_zeros, unshared}
 use Rattle.lanes.proofs.put_totals.Goals as goal
 
 pub put_totals_with-requires : goal.put_totals_with-requires
-put_totals_with-requires c = (c.requires.0, c.requires.1, unshared c.args.shape _ _ _ (sym c.shares.ensures ∙ c.if-not-shares.true) _)
+put_totals_with-requires c = (c.requires.0, c.requires.1, unshared c.args.window.now.shape _ _ _ (sym c.shares.ensures ∙ c.if-not-shares.true) _)
 
 pub put_shared-requires : goal.put_shared-requires
-put_shared-requires c = (c.requires.0.window, sym c.shares.ensures ∙ c.if-not-shares.false, omega (arith, c.requires.0.few, length-replicate {A = ℕ} 512 0), λ i l. new_zeros 512 i)
+put_shared-requires c = (sym c.shares.ensures ∙ c.if-not-shares.false, omega (arith, c.requires.0.few, length-replicate {A = ℕ} 512 0), λ i l. new_zeros 512 i)

@@ -1,68 +1,47 @@
--- `lanes::put_totals_with` meets its contract. The loop's invariant: the lanes of the first k members are done, and those of them that fail are known.
-use mathlib.Core.Path.{refl, sym, ap, ◌∙◌, subst}
+-- `lanes::put_totals_with` meets its contract. The loop's invariant: the lanes of the members that are not still to come are done, and those of
+-- them that fail are known.
+use mathlib.Core.Path.{◌≡◌, refl, sym, ap, ◌∙◌}
 use mathlib.Core.Bool.{not}
-use Prim.Native.Nat.{◌+◌}
 use Rattle.xor.proofs.Runs.{summed_says}
 use Rattle.equation.proofs.Windows.{fails_by}
-use Rattle.lanes.proofs.Lanes.{totals_none, totals_more, totals_all, FailingTo, failing_none, failing_not, failing_more, failing_all}
+use Rattle.lanes.proofs.Lanes.{totals_none, totals_more, totals_all, failing_none, failing_not, failing_more, failing_all}
 use native.Mathlib.Omega.{arith}
 use Rattle.lanes.proofs.put_totals_with.Goals as goal
-use Rattle.lanes.proofs.put_totals_with.Goals.{then-not-put_total, else-not-put_total}
 
-pub list_members-count-requires : goal.list_members-count-requires
-list_members-count-requires c = (refl, omega arith)
-
-pub loop-k-init : goal.loop-k-init
-loop-k-init c = (omega arith, totals_none _ _ _ _ _ _ c.requires.0.space, failing_none _ _ _ _ _)
-
-pub offset_bounds-members-k : goal.offset_bounds-members-k
-offset_bounds-members-k c = omega (arith, c.list_members-count.ensures.few)
-
-pub bounds-members-k : goal.bounds-members-k
-bounds-members-k c = omega (arith, c.list_members-count.ensures.few)
-
-pub overflow_mul-q : goal.overflow_mul-q
-overflow_mul-q c =
-    let found = c.list_members-count.ensures.member c.loop-k.k c.loop-k-test.true in
-    omega (arith, found.1, found.3)
+pub loop-q-init : goal.loop-q-init
+loop-q-init c =
+    let whole : c.into_iter-q-iterator.result.rest ≡ c.args.set = cc c.into_iter-q-iterator.ensures.into_iter_gives in
+    (totals_none _ _ _ _ _ _ _ whole c.requires.0.space, failing_none _ _ _ _ _ _ whole)
 
 pub put_total-requires : goal.put_total-requires
 put_total-requires c =
-    let found = c.list_members-count.ensures.member c.loop-k.k c.loop-k-test.true in
+    let took = c.in-Some.ensures.steps in
     let lane = c.requires.0 in
-    let below = c.requires.1 found.0 found.2 in (
-      lane.window,
-      omega (arith, below, found.3),
-      omega (arith, lane.few, c.loop-k.invariant.1.long, found.1, found.3),
-      c.requires.2,
+    (c.requires.1.below _ (c.loop-q.invariant.0.within _ (took.1.passes took.0)), omega (arith, lane.few, took.0, c.loop-q.invariant.0.long), c.requires.2)
+
+pub loop-q-preserved-then-not-put_total : goal.loop-q-preserved-then-not-put_total
+loop-q-preserved-then-not-put_total c =
+    let a = c.args in
+    let turn = c.loop-q in
+    let took = c.in-Some.ensures.steps in
+    let total = c.put_total in
+    let fails = fails_by a.window.now.shape a.window.now.stripe.now _ a.window.now.at a.window.now.n _ (λ i l. refl) total.result (summed_says _ _ _ a.window.now.n _ total.result total.ensures) in (
+      totals_more a.window.now.shape a.window.now.stripe.now a.window.now.at a.window.now.n a.set _ _ _ _ _ c.requires.0.few took turn.invariant.0 total.ensures.put,
+      failing_more a.window.now.shape a.window.now.stripe.now a.window.now.at a.window.now.n a.set _ _ _ turn.failing took turn.invariant.1 _ c.one_bit-failing.ensures (sym fails ∙ ap not c.if-not-put_total.true),
     )
 
-pub one_bit-failing-requires : goal.one_bit-failing-requires
-one_bit-failing-requires c =
-    let found = c.list_members-count.ensures.member c.loop-k.k c.loop-k-test.true in
-    omega (arith, found.1, found.3)
-
-pub loop-k-preserved : goal.loop-k-preserved
-loop-k-preserved c =
+pub loop-q-preserved : goal.loop-q-preserved
+loop-q-preserved c =
     let a = c.args in
-    let turn = c.loop-k in
+    let turn = c.loop-q in
+    let took = c.in-Some.ensures.steps in
     let total = c.put_total in
-    let fails = fails_by a.shape a.stripe.now _ a.at a.n _ (λ i l. refl) total.result (summed_says _ _ _ a.n _ total.result total.ensures) in (
-      omega arith,
-      totals_more a.shape a.stripe.now a.at a.n _ turn.k _ _ c.requires.0.few turn.invariant.1 total.ensures.put,
-      elim c.if-not-put_total.branch [
-        | then-not-put_total w ↦ subst (FailingTo a.shape a.stripe.now a.at a.n _ (turn.k + 1)) (sym w.failing-is)
-            (failing_more a.shape a.stripe.now a.at a.n _ turn.k turn.failing turn.invariant.2 _ w.one_bit-failing.ensures (sym fails ∙ ap not w.if-not-put_total.true))
-        | else-not-put_total w ↦ subst (FailingTo a.shape a.stripe.now a.at a.n _ (turn.k + 1)) (sym w.failing-is)
-            (failing_not a.shape a.stripe.now a.at a.n _ turn.k turn.failing turn.invariant.2 (sym fails ∙ ap not w.if-not-put_total.false))
-      ],
+    let fails = fails_by a.window.now.shape a.window.now.stripe.now _ a.window.now.at a.window.now.n _ (λ i l. refl) total.result (summed_says _ _ _ a.window.now.n _ total.result total.ensures) in (
+      totals_more a.window.now.shape a.window.now.stripe.now a.window.now.at a.window.now.n a.set _ _ _ _ _ c.requires.0.few took turn.invariant.0 total.ensures.put,
+      failing_not a.window.now.shape a.window.now.stripe.now a.window.now.at a.window.now.n a.set _ _ _ turn.failing took turn.invariant.1 (sym fails ∙ ap not c.if-not-put_total.false),
     )
 
 pub returns : goal.returns
 returns c =
-    let a = c.args in
-    let w = c.requires.0.window.formed in
-    let members = c.list_members-count.ensures in (
-      totals_all a.shape a.stripe.now a.at a.n w _ _ _ _ _ c.requires.1 members (omega arith) c.loop-k.invariant.1,
-      failing_all a.shape a.stripe.now a.at a.n w _ _ _ _ _ c.requires.1 members (omega arith) c.loop-k.invariant.2,
-    )
+    let none = c.in-None.ensures.steps.0 in
+    (totals_all _ _ _ _ _ _ _ none c.loop-q.invariant.0, failing_all _ _ _ _ _ _ _ none c.loop-q.invariant.1)

@@ -1,10 +1,8 @@
--- `lanes::put_totals_with` meets its contract. The loop's invariant: the lanes of the first k members are done, and those of them that fail are known.
-use Prim.Native.Nat.{◌-◌, ◌≤◌}
+-- `lanes::put_totals_with` meets its contract. The loop's invariant: the lanes of the members that are not still to come are done, and those of
+-- them that fail are known.
 use Rattle.lanes.proofs.Lanes.{TotalsTo, FailingTo}
 use Rattle.lanes.proofs.put_totals_with.Given as goal
 
-abbrev pub invariant-loop-k : goal.invariant-loop-k
-invariant-loop-k l = (l.k ≤ l.count) × TotalsTo l.shape l.stripe l.at l.n l.members l.k l.lanes × FailingTo l.shape l.stripe l.at l.n l.members l.k l.failing
-
-abbrev pub decreases-loop-k : goal.decreases-loop-k
-decreases-loop-k l = l.count - l.k
+abbrev pub invariant-loop-q : goal.invariant-loop-q
+invariant-loop-q l =
+    let w = l.window in TotalsTo w.shape w.stripe.now w.at w.n l.set l.q-iterator.rest l.lanes × FailingTo w.shape w.stripe.now w.at w.n l.set l.q-iterator.rest l.failing

@@ -2,11 +2,11 @@
 use Rattle.codes.proofs.Shapes.{wrong_code, wrong_none, wrong_most}
 use Rattle.refusals.proofs.data_wrong.Goals as goal
 
-pub returns-then-shape-ne1 : goal.returns-then-shape-ne1
-returns-then-shape-ne1 c = wrong_code _ _ _ _ c.in-Data.is c.if-shape-ne1.true
+pub returns-then-shape : goal.returns-then-shape
+returns-then-shape c = wrong_code _ _ _ _ c.in-Some.is c.if-shape.true
 
 pub returns-then-m-eq0 : goal.returns-then-m-eq0
-returns-then-m-eq0 c = wrong_none _ _ _ _ c.in-Data.is c.if-shape-ne1.false c.if-m-eq0.true
+returns-then-m-eq0 c = wrong_none _ _ _ _ c.in-Some.is c.if-shape.false c.if-m-eq0.true
 
 pub returns : goal.returns
-returns c = wrong_most _ _ _ _ c.in-Data.is c.if-shape-ne1.false c.if-m-eq0.false
+returns c = wrong_most _ _ _ _ c.in-Some.is c.if-shape.false c.if-m-eq0.false

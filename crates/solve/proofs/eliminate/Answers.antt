@@ -1,45 +1,44 @@
 -- `solve::eliminate` meets its contract. The loop's invariant: on every problem with the first masks the run has come to lost cell number k,
-use mathlib.Core.Path.{refl}
+-- and the masks are those of its state.
+use mathlib.Core.Path.{◌≡◌, refl, sym, ◌∙◌, subst}
 use native.Mathlib.Omega.{arith}
-use lib.Pow.{pow_pos}
-use Rattle.solve.proofs.Eliminating.{sofar_first, sofar_more, sofar_stops, sofar_all}
+use Rattle.solve.specs.Masked.{Eliminates}
+use Rattle.solve.proofs.Turns.{own_all}
+use Rattle.solve.proofs.Eliminating.{sofar_first, found_below, sofar_more, sofar_stops, sofar_all, within_holding}
+use Rattle.bits.proofs.Limits.{within_and, within_xor, within_power}
+use borrow.Author.Rules.{rules}
+use Prim.Native.Nat.{◌<◌}
+use lib.ListN.{length}
 use Rattle.solve.proofs.eliminate.Goals as goal
 
-pub overflow_sub-unused : goal.overflow_sub-unused
-overflow_sub-unused c = omega (arith, c.one_bit-unused.ensures, pow_pos c.args.equations)
-
 pub loop-k-init : goal.loop-k-init
-loop-k-init c = sofar_first _ _ _ _ _ _ c.requires.0 c.requires.2 c.own_sources.ensures c.one_bit-unused.ensures
+loop-k-init c = sofar_first _ _ _ _ _ _ refl (omega (arith, c.own_sources.auto.sources)) refl (own_all _ _ _ (omega arith) c.own_sources.ensures) c.one_bit-unused.ensures
 
-pub find_equation-q-requires : goal.find_equation-q-requires
-find_equation-q-requires c = c.loop-k.invariant.long_rows
-
-pub returns-then-q-eq-ROOM : goal.returns-then-q-eq-ROOM
-returns-then-q-eq-ROOM c = sofar_stops _ _ _ _ _ _ _ _ _ c.requires.4 c.requires.3 (omega arith) c.if-q-eq-ROOM.true c.find_equation-q.ensures c.loop-k.invariant
-
-pub one_bit-one-requires : goal.one_bit-one-requires
-one_bit-one-requires c = let most = c.find_equation-q.ensures.most in omega arith
-
-pub holding-requires : goal.holding-requires
-holding-requires c = (c.loop-k.invariant.long_rows, omega (arith, c.requires.4), omega (arith, c.requires.3))
+pub returns-in_err-q : goal.returns-in_err-q
+returns-in_err-q c =
+    subst (Eliminates _ _ _ _ _) (sym c.from_residual.ensures)
+    (sofar_stops _ _ _ _ _ _ _ _ _ c.requires.0 c.requires.2 c.loop-k-test.true c.in_err-q.ensures c.loop-k.invariant)
 
 pub spread-requires : goal.spread-requires
-spread-requires c = (
-  c.loop-k.invariant.long_rows,
-  let most = c.find_equation-q.ensures.most in omega arith,
-)
+spread-requires c =
+    let h = c.loop-k.invariant in
+    let q = c.in_ok-q.ensures in
+    let below : c.in_ok-q.q < length c.loop-k.rows = omega (arith, h.long_rows, found_below _ c.loop-k.rows _ _ _ h.within q.0 q.1) in
+    search (rules, within_and, within_xor, within_holding, within_power)
 
 pub spread-requires-in-loop-k : goal.spread-requires-in-loop-k
-spread-requires-in-loop-k c = (
-  c.loop-k.invariant.long_sources,
-  let most = c.find_equation-q.ensures.most in omega arith,
-)
+spread-requires-in-loop-k c =
+    let h = c.loop-k.invariant in
+    let q = c.in_ok-q.ensures in
+    let same : length c.loop-k.sources ≡ length c.loop-k.rows = h.long_sources ∙ sym h.long_rows in
+    let below : c.in_ok-q.q < length c.loop-k.rows = omega (arith, h.long_rows, found_below _ c.loop-k.rows _ _ _ h.within q.0 q.1) in
+    rw same (search (rules, within_and, within_xor, within_holding, within_power))
 
 pub loop-k-preserved : goal.loop-k-preserved
 loop-k-preserved c =
-    let found = c.find_equation-q.ensures in
-    sofar_more _ _ _ _ _ _ _ _ _ _ _ _ _ _ c.requires.4 c.requires.3 (omega arith) (let most = found.most in omega arith) found c.one_bit-one.ensures
+    let q = c.in_ok-q.ensures in
+    sofar_more _ _ _ _ _ _ _ _ _ _ _ _ _ _ c.requires.0 c.requires.2 c.loop-k-test.true q.0 q.1 c.one_bit-one.ensures
     c.holding.ensures c.spread.ensures c.spread-in-loop-k.ensures refl c.loop-k.invariant
 
 pub returns : goal.returns
-returns c = sofar_all _ _ _ _ _ _ _ _ (let low = c.loop-k.invariant.low in omega arith) c.loop-k.invariant
+returns c = sofar_all _ _ _ _ _ _ _ _ (omega arith) c.loop-k.invariant

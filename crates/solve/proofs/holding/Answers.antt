@@ -2,20 +2,18 @@
 use native.Mathlib.Omega.{arith}
 use Rattle.solve.proofs.Turns.{holding_none, holding_less, holding_more, holding_all}
 use Rattle.solve.proofs.holding.Goals as goal
-use Rattle.solve.proofs.holding.Goals.{then-rows-q-ne0, else-rows-q-ne0}
+use Rattle.solve.proofs.holding.Goals.{then-row-cell-ne0, else-row-cell-ne0}
 
 pub loop-q-init : goal.loop-q-init
-loop-q-init c = (omega arith, holding_none _ _)
+loop-q-init c = holding_none _ _
 
 pub loop-q-preserved : goal.loop-q-preserved
 loop-q-preserved c =
-    let cell = c.one_bit-cell.ensures in (
-      omega arith,
-      elim c.if-rows-q-ne0.branch [
-        | then-rows-q-ne0 w ↦ holding_more _ _ _ _ _ cell c.loop-q.invariant.1 _ _ w.one_bit-members.ensures w.members-is w.if-rows-q-ne0.true
-        | else-rows-q-ne0 w ↦ holding_less _ _ _ _ _ cell c.loop-q.invariant.1 _ w.members-is w.if-rows-q-ne0.false
-      ],
-    )
+    let cell = c.one_bit-cell.ensures in
+    elim c.if-row-cell-ne0.branch [
+      | then-row-cell-ne0 w ↦ holding_more _ _ _ _ _ cell c.loop-q.invariant _ _ w.one_bit-members.ensures w.members-is w.if-row-cell-ne0.true
+      | else-row-cell-ne0 w ↦ holding_less _ _ _ _ _ cell c.loop-q.invariant _ w.members-is w.if-row-cell-ne0.false
+    ]
 
 pub returns : goal.returns
-returns c = holding_all _ _ _ _ _ (let inv = c.loop-q.invariant.0 in omega arith) c.loop-q.invariant.1
+returns c = holding_all _ _ _ _ _ (omega arith) c.loop-q.invariant

@@ -1,10 +1,6 @@
 -- `spare::list_places` meets its contract. The loop's invariant: the first t columns from the one that leads on have their places.
-use Prim.Native.Nat.{◌-◌, ◌≤◌}
 use Rattle.spare.proofs.Tables.{Filled}
 use Rattle.spare.proofs.list_places.Given as goal
 
 abbrev pub invariant-loop-t : goal.invariant-loop-t
-invariant-loop-t l = (l.t ≤ l.p) × Filled l.shape l.back l.t l.places
-
-abbrev pub decreases-loop-t : goal.decreases-loop-t
-decreases-loop-t l = l.p - l.t
+invariant-loop-t l = Filled l.shape l.back l.t l.places

@@ -7,18 +7,19 @@ use Rattle.spare.proofs.rebuild_row.Goals as goal
 
 pub overflow_mul-at : goal.overflow_mul-at
 overflow_mul-at c =
-    let w = c.requires.right.of.formed in
+    let w = c.args.lost.column.formed in
     omega (arith, step_small _ w c.aim-window.result.ahead (omega (arith, c.aim-window.ensures.ahead, high _ w)))
 
-pub put_sum_whole-requires : goal.put_sum_whole-requires
-put_sum_whole-requires c =
+pub put_sum_from-requires : goal.put_sum_from-requires
+put_sum_from-requires c =
     let pre = c.requires in
-    let w = pre.right.of.formed in (
+    let w = c.args.lost.column.formed in (
       others_inside _ _ _ _ _ _ _ pre.long pre.whole c.aim-window.ensures.cells,
+      omega arith,
       omega (arith, pre.whole, step_small _ w c.aim-window.result.ahead (omega (arith, c.aim-window.ensures.ahead, high _ w)), w.cell_high),
     )
 
 pub returns : goal.returns
 returns c =
     let is = c.aim-window.ensures in
-    record { put = row_put _ _ _ _ _ _ _ _ _ _ c.requires.whole is.cells c.put_sum_whole.ensures.put; level = is.level; slant = is.slant }
+    record { put = row_put _ _ _ _ _ _ _ _ _ _ c.requires.whole is.cells c.put_sum_from.ensures.put; level = is.level; slant = is.slant }

@@ -1,10 +1,6 @@
 -- `stripe::set_parities_with` meets its contract. The loop's invariant: the parity cells of the first q equations are set, one after the other.
-use Prim.Native.Nat.{◌-◌, ◌≤◌}
 use Rattle.stripe.proofs.Encoding.{Settled}
 use Rattle.stripe.proofs.set_parities_with.Given as goal
 
 abbrev pub invariant-loop-q : goal.invariant-loop-q
-invariant-loop-q l = (l.q ≤ l.n) × Settled l.shape l.q l.initial.stripe l.stripe
-
-abbrev pub decreases-loop-q : goal.decreases-loop-q
-decreases-loop-q l = l.n - l.q
+invariant-loop-q l = Settled l.shape l.q l.initial.stripe l.stripe

@@ -1,11 +1,6 @@
 -- `codes::xcode::is_parity` meets its contract. Parity is in the last two rows.
-use native.Mathlib.Omega.{arith}
-use Rattle.codes.proofs.Shapes.{low}
 use Rattle.codes.proofs.Positions.{xcode_parity}
 use Rattle.codes.proofs.xcode.is_parity.Goals as goal
-
-pub overflow_sub-result : goal.overflow_sub-result
-overflow_sub-result c = omega (arith, low c.args.shape c.requires.0)
 
 pub returns : goal.returns
 returns c = xcode_parity c.args.shape c.requires.0 c.requires.1 _ _ c.requires.2 c.requires.3

@@ -11,7 +11,8 @@ use Rattle.spare.proofs.short.+run_rows.Goals as goal
 pub returns : goal.returns
 returns t c =
     let a = c.args in
-    let buffers = c.requires.0.buffers in
-    let row : a.first + (a.n - 1) < rows a.shape = omega (arith, pos_of_ne-zero c.if-n-eq0.false, c.requires.1) in
-    rows_last a.shape buffers.of.formed a.k a.plan a.first a.stripe.now a.spare.now a.n c.run_rows.new.spare _
-    (pos_of_ne-zero c.if-n-eq0.false) c.run_rows.ensures (row_ends a.shape _ (c.run_rows.ensures.long ∙ buffers.whole) _ row) c.rebuild_row.ensures
+    let l = a.lost in
+    let fit = c.requires in
+    let row : a.first + (a.n - 1) < rows l.shape = omega (arith, pos_of_ne-zero c.if-n-eq0.false, fit.inside) in
+    rows_last l.shape l.column.formed l.k l.plan a.first a.stripe.now a.spare.now a.n c.run_rows.new.spare _
+    (pos_of_ne-zero c.if-n-eq0.false) c.run_rows.ensures (row_ends l.shape _ (c.run_rows.ensures.long ∙ fit.whole) _ row) c.rebuild_row.ensures

@@ -1,7 +1,0 @@
--- `codes::hcode::dependents` meets its contract. No equation of H-Code sums a parity cell.
-use native.Mathlib.Omega.{arith}
-use Rattle.codes.proofs.Depends.{other_depends}
-use Rattle.codes.proofs.hcode.dependents.Goals as goal
-
-pub returns : goal.returns
-returns c = other_depends c.args.shape c.requires.0 _ _ c.requires.2 (λ e. omega arith) _ c.holders.ensures
