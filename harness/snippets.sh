@@ -1,7 +1,8 @@
 #!/bin/sh
 # Tests the README's snippets: the one in C is compiled against the header and the library and run, those in Rattle are parts of the program that
 # the toolchain proves and runs, whose line of crates.txt is the real one, the one with a job prints what it says, and the pictures are what the
-# example prints first. Then that prose is nowhere wider than 100 characters.
+# example prints first. Before that, that the library needs from outside what the header says, and that the README names what a reader must
+# believe; after it, that prose is nowhere wider than 100 characters.
 #
 #   harness/snippets.sh [--lib FILE]
 #
@@ -24,6 +25,20 @@ snippet() {
     awk -v start="\`\`\`$1" '$0 == start { inside = 1; next } /^```$/ { inside = 0 } inside' "$ROOT/README.md" >"$2"
     [ -s "$2" ] || { echo "README.md has no snippet of the kind $1" >&2; exit 1; }
 }
+
+# The header says what the library needs from outside, and nothing else.
+needs=$(nm -u "$LIB" | awk '$1 == "U" { print $2 }' | sort | tr '\n' ' ')
+[ "$needs" = 'memcpy memset ' ] || { echo "the library needs $needs" >&2; exit 1; }
+echo "the library needs memcpy and memset, as the header says"
+
+# What a reader must believe is listed in the README, file by file.
+believe=$(awk '$0 == "## What to believe" { inside = 1; next } /^## / { inside = 0 } inside' "$ROOT/README.md")
+reached=$("$ROOT/harness/figures.sh" --reach | sed -n 's/^ *[0-9]* *[a-z]*\/specs\/\([A-Za-z0-9]*\)\.antt .*/\1/p' | sort -u)
+[ -n "$reached" ] || { echo 'the exports reach no definitions' >&2; exit 1; }
+for file in $reached; do
+    echo "$believe" | grep -q -w "$file" || { echo "README.md doesn't name $file among what to believe" >&2; exit 1; }
+done
+echo "README.md names each file of specs/ that the exports reach"
 
 snippet c "$BUILD/snippet.c"
 kit_cc "$BUILD/snippet.c" "$BUILD/snippet.o" -I"$ROOT/include"

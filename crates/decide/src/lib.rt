@@ -142,7 +142,9 @@ pub fn decide<'a>(
     let sources = &mut sources[..n];
     let chosen = &mut chosen[..u];
     hold_lost(shape, listed, rows);
-    let unused = solve::eliminate(rows, sources, chosen)?;
+    let Some(unused) = solve::eliminate(rows, sources, chosen) else {
+        return None;
+    };
     give_sets(listed, chosen, sources);
     let tests = list_checks(unused, sources, checks);
     Some(Way {

@@ -7,7 +7,7 @@ ghost use Rattle.format.specs.Format.{most_lost, most_stripe, Job, field};
 ghost use Rattle.format.specs.Parts.{tag_number};
 ghost use Rattle.format.specs.Reading.{Holds};
 ghost use Rattle.jobs.specs.Carrying.{Lists, Rebuilt, Stored};
-ghost use Rattle.jobs.specs.Answer.{bytes_of, Answers, PutInto, AnswersInto};
+ghost use Rattle.jobs.specs.Answer.{bytes_of, Carried, PutInto, AnswersInto};
 
 use format::{Fields, Tag};
 use refusals::Refusal;
@@ -69,18 +69,17 @@ fn rebuild_job(f: Fields, stripe: &mut [u8]) -> Result<(), Refusal>
     requires { ((j : Job) × Holds j f) × (length stripe.old ≡ length f.stripe.now) }
     ensures { Rebuilt f.entry (number result) stripe.new }
 {
-    stripe.copy_from_slice(f.stripe);
+    xor::put_run(stripe, 0, f.stripe);
     let mut lost = [0usize; format::MOST_LOST];
     read_lost(f.lost, &mut lost);
     rebuild::cells(f.shape, stripe, &lost[..f.lost.len()])
 }
 
-// Carries out the job that the bytes are, in lent bytes with room for every stripe. Gives its stripe with the lost cells rebuilt.
-fn carry_out<'a>(input: &[u8], space: &'a mut [u8]) -> Result<&'a [u8], Refusal>
-    requires { length space.old ≡ most_stripe }
-    ensures { Answers input.now (bytes_of result) }
+// Rebuilds the lost cells of the job whose fields these are, in lent bytes with room for every stripe. Gives its stripe.
+fn carry_out<'a>(f: Fields, space: &'a mut [u8]) -> Result<&'a [u8], Refusal>
+    requires { ((j : Job) × Holds j f) × (length space.old ≡ most_stripe) }
+    ensures { (j : Job) → Holds j f.entry → Carried j (bytes_of result) }
 {
-    let f = format::read_job(input).ok_or(Refusal::NoJob)?;
     let stripe = &mut space[..f.stripe.len()];
     rebuild_job(f, stripe)?;
     Ok(stripe)
@@ -91,6 +90,11 @@ fn carry_out<'a>(input: &[u8], space: &'a mut [u8]) -> Result<&'a [u8], Refusal>
 pub fn answer(input: &[u8], output: &mut [u8]) -> usize
     ensures { AnswersInto input.now output.old result output.new }
 {
+    let Some(f) = format::read_job(input) else {
+        return write_answer(Err(Refusal::NoJob), output);
+    };
+    // room for a stripe is made only where there is a job
     let mut space = [0u8; format::MOST_STRIPE];
-    write_answer(carry_out(input, &mut space), output)
+    let answer = carry_out(f, &mut space);
+    write_answer(answer, output)
 }

@@ -9,7 +9,11 @@ use Rattle.xor.proofs.Cases.{by_equal}
 use Rattle.codes.specs.declared.Shape.{Shape}
 use Rattle.codes.specs.Shape.{WellFormed}
 use Rattle.codes.specs.Encoded.{byte_at}
+use Rattle.std.specs.Prelude.{Result}
+use Rattle.refusals.specs.declared.reason.Refusal.{Refusal}
+use Rattle.refusals.specs.Number.{number}
 use Rattle.refusals.specs.Refusals.{refusal, cells_faults, columns_faults}
+use Rattle.refusals.proofs.Answer.{same_answer}
 use Rattle.refusals.proofs.Refused.{cells_accepted, columns_accepted}
 use Rattle.codes.proofs.Parity.{same_bytes}
 use Rattle.codes.specs.Agree.{Agree, callers_columns}
@@ -71,3 +75,11 @@ cells_one s numbers old = rebuilds_one s (named s numbers) (refusal (cells_fault
 pub columns_one : (s : Shape) (i j : ℕ) (old : List ℕ) (a b : ℕ) (x y : List ℕ) → RebuildsColumns s i j old a x → RebuildsColumns s i j old b y → (a ≡ b) × (x ≡ y)
 columns_one s i j old a b x y ha hb =
     rebuilds_one s (callers_columns s i j) (refusal (columns_faults s (length old) i j)) old (λ e. (columns_accepted s (length old) i j e).0) a b x y ha.rebuilds hb.rebuilds
+
+-- ---- of what the calls answer, whose numbers the contracts speak of
+
+pub cells_told : (s : Shape) (numbers old : List ℕ) (a b : Result (Unit {0}) Refusal) (x y : List ℕ) → RebuildsCells s numbers old (number a) x → RebuildsCells s numbers old (number b) y → (a ≡ b) × (x ≡ y)
+cells_told s numbers old a b x y ha hb = let both = cells_one s numbers old (number a) (number b) x y ha hb in (same_answer a b both.0, both.1)
+
+pub columns_told : (s : Shape) (i j : ℕ) (old : List ℕ) (a b : Result (Unit {0}) Refusal) (x y : List ℕ) → RebuildsColumns s i j old (number a) x → RebuildsColumns s i j old (number b) y → (a ≡ b) × (x ≡ y)
+columns_told s i j old a b x y ha hb = let both = columns_one s i j old (number a) (number b) x y ha hb in (same_answer a b both.0, both.1)

@@ -11,7 +11,8 @@ use Rattle.codes.specs.Encoded.{broken_equations}
 use Rattle.codes.specs.Geometry.{cell_at}
 use Rattle.refusals.specs.Refusals.{stripe_faults, write_faults}
 use Rattle.refusals.proofs.Refused.{accepted, write_accepted}
-use Rattle.refusals.proofs.Answer.{one_answer}
+use Rattle.refusals.specs.Number.{number}
+use Rattle.refusals.proofs.Answer.{same_answer, one_answer}
 use Rattle.stripe.specs.Encode.{Encodes}
 use Rattle.stripe.specs.Broken.{Counts}
 use Rattle.stripe.specs.Write.{Written, Depending, Writes}
@@ -29,6 +30,10 @@ encode_one s old a b x y ha hb = (
   where
     same : a ≡ b
     same = ha.number ∙ sym hb.number
+
+-- of what the call answers, whose number the contract speaks of
+pub encode_told : (s : Shape) (old : List ℕ) (a b : Result (Unit {0}) Refusal) (x y : List ℕ) → Encodes s old (number a) x → Encodes s old (number b) y → (a ≡ b) × (x ≡ y)
+encode_told s old a b x y ha hb = let both = encode_one s old (number a) (number b) x y ha hb in (same_answer a b both.0, both.1)
 
 -- broken
 pub broken_one : (s : Shape) (stripe : List ℕ) (a b : Result ℕ Refusal) → Counts s stripe a → Counts s stripe b → a ≡ b

@@ -320,10 +320,13 @@ pub fn add_difference(s: &mut [u8], to: usize, from: usize, new: &[u8]) -> bool
     zero & add_block_difference(s, to, from, new, whole, n - whole)
 }
 
-// Stores new bytes in the run at `to`.
+// Stores new bytes in the run at `to`. By a loop, which is compiled in place: `copy_from_slice` is compiled to memmove, which C callers would have
+// to link besides.
 pub fn put_run(s: &mut [u8], to: usize, new: &[u8])
     requires { to + length new.now ≤ length s.old }
     ensures { Put s.old to (length new.now) (λ t. get_or new.now t 0) s.new }
 {
-    s[to..to + new.len()].copy_from_slice(new);
+    for i in 0..new.len() {
+        s[to + i] = new[i];
+    }
 }

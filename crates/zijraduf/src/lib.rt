@@ -274,7 +274,8 @@ pub extern "C" fn zijraduf_run(
     ensures { Told shape (λ s. InNumbers count_in_numbers (RunsByPlan s k plan first budget stripe.now spare.old
         spare.new) result) }
 {
-    spare::run(shape.into(), stripe, k, plan, spare, first, budget).into()
+    let answer = spare::run(shape.into(), stripe, k, plan, spare, first, budget);
+    answer.into()
 }
 
 // Show.

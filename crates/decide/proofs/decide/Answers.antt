@@ -42,27 +42,26 @@ eliminate-requires c =
     let rows : length c.hold_lost.new.rows ≡ equations c.args.shape = c.hold_lost.auto.rows ∙ for_equations _ c.requires.0 _ c.equation_count-n.ensures in
     (omega (arith, rows, small_equations c.args.shape c.requires.0), for_equations _ c.requires.0 _ c.equation_count-n.ensures ∙ sym rows, first_zeros_few 64 _)
 
-pub returns-in_err-unused : goal.returns-in_err-unused
-returns-in_err-unused c =
-    subst (Decision _ _) (sym c.from_residual-in_err-unused.ensures)
-    (decision_open _ c.requires.0 _ c.requires.1 _ _ c.in_ok-listed.ensures.lists _ c.hold_lost.ensures _ _ _ _ _ (c.hold_lost.auto.rows ∙ for_equations _ c.requires.0 _ c.equation_count-n.ensures) (for_lost _ c.requires.0 _ c.in_ok-listed.ensures.few) c.eliminate.ensures c.in_err-unused.was)
+pub returns-in_default : goal.returns-in_default
+returns-in_default c =
+    (decision_open _ c.requires.0 _ c.requires.1 _ _ c.in_ok-listed.ensures.lists _ c.hold_lost.ensures _ _ _ _ _ (c.hold_lost.auto.rows ∙ for_equations _ c.requires.0 _ c.equation_count-n.ensures) (for_lost _ c.requires.0 _ c.in_ok-listed.ensures.few) c.eliminate.ensures c.in_default.is)
 
 pub give_sets-requires : goal.give_sets-requires
 give_sets-requires c =
     let sources : length c.eliminate.new.sources ≡ equations c.args.shape = c.eliminate.auto.sources ∙ for_equations _ c.requires.0 _ c.equation_count-n.ensures in
     let chosen : length c.eliminate.new.chosen ≡ length c.in_ok-listed.listed.now = c.eliminate.auto.chosen ∙ for_lost _ c.requires.0 _ c.in_ok-listed.ensures.few in
-    (chosen, λ k l. omega (arith, sources, chosen_below_all _ c.requires.0 _ c.requires.1 _ _ c.in_ok-listed.ensures.lists _ c.hold_lost.ensures _ _ _ _ _ (c.hold_lost.auto.rows ∙ for_equations _ c.requires.0 _ c.equation_count-n.ensures) (for_lost _ c.requires.0 _ c.in_ok-listed.ensures.few) c.eliminate.ensures _ c.in_ok-unused.was k (omega (arith, chosen))))
+    (chosen, λ k l. omega (arith, sources, chosen_below_all _ c.requires.0 _ c.requires.1 _ _ c.in_ok-listed.ensures.lists _ c.hold_lost.ensures _ _ _ _ _ (c.hold_lost.auto.rows ∙ for_equations _ c.requires.0 _ c.equation_count-n.ensures) (for_lost _ c.requires.0 _ c.in_ok-listed.ensures.few) c.eliminate.ensures _ c.in-Some.is k (omega (arith, chosen))))
 
 pub list_checks-tests-requires : goal.list_checks-tests-requires
 list_checks-tests-requires c =
     let sources : length c.eliminate.new.sources ≡ equations c.args.shape = c.eliminate.auto.sources ∙ for_equations _ c.requires.0 _ c.equation_count-n.ensures in
-    let unused = within_unused _ c.requires.0 _ c.requires.1 _ _ c.in_ok-listed.ensures.lists _ c.hold_lost.ensures _ _ _ _ _ (c.hold_lost.auto.rows ∙ for_equations _ c.requires.0 _ c.equation_count-n.ensures) (for_lost _ c.requires.0 _ c.in_ok-listed.ensures.few) c.eliminate.ensures _ c.in_ok-unused.was in
+    let unused = within_unused _ c.requires.0 _ c.requires.1 _ _ c.in_ok-listed.ensures.lists _ c.hold_lost.ensures _ _ _ _ _ (c.hold_lost.auto.rows ∙ for_equations _ c.requires.0 _ c.equation_count-n.ensures) (for_lost _ c.requires.0 _ c.in_ok-listed.ensures.few) c.eliminate.ensures _ c.in-Some.is in
     rw sources (search (within_and, unused))
 
 pub invariant_of-result : goal.invariant_of-result
 invariant_of-result c =
     let solver = solver_given _ _ _ _ _ _ c.give_sets.ensures.same c.give_sets.auto.lost
-    (decision_solved _ c.requires.0 _ c.requires.1 _ _ c.in_ok-listed.ensures.lists _ c.hold_lost.ensures _ _ _ _ _ (c.hold_lost.auto.rows ∙ for_equations _ c.requires.0 _ c.equation_count-n.ensures) (for_lost _ c.requires.0 _ c.in_ok-listed.ensures.few) c.eliminate.ensures _ c.in_ok-unused.was
+    (decision_solved _ c.requires.0 _ c.requires.1 _ _ c.in_ok-listed.ensures.lists _ c.hold_lost.ensures _ _ _ _ _ (c.hold_lost.auto.rows ∙ for_equations _ c.requires.0 _ c.equation_count-n.ensures) (for_lost _ c.requires.0 _ c.in_ok-listed.ensures.few) c.eliminate.ensures _ c.in-Some.is
     c.in_ok-listed.ensures.few _ _ (c.eliminate.auto.chosen ∙ for_lost _ c.requires.0 _ c.in_ok-listed.ensures.few) c.give_sets.ensures.given _ c.list_checks-tests.ensures) in
     record {
       formed = c.requires.0;
@@ -75,6 +74,6 @@ pub returns : goal.returns
 returns c = (
   refl,
   solver_given _ _ _ _ _ _ c.give_sets.ensures.same c.give_sets.auto.lost
-      (decision_solved _ c.requires.0 _ c.requires.1 _ _ c.in_ok-listed.ensures.lists _ c.hold_lost.ensures _ _ _ _ _ (c.hold_lost.auto.rows ∙ for_equations _ c.requires.0 _ c.equation_count-n.ensures) (for_lost _ c.requires.0 _ c.in_ok-listed.ensures.few) c.eliminate.ensures _ c.in_ok-unused.was
+      (decision_solved _ c.requires.0 _ c.requires.1 _ _ c.in_ok-listed.ensures.lists _ c.hold_lost.ensures _ _ _ _ _ (c.hold_lost.auto.rows ∙ for_equations _ c.requires.0 _ c.equation_count-n.ensures) (for_lost _ c.requires.0 _ c.in_ok-listed.ensures.few) c.eliminate.ensures _ c.in-Some.is
       c.in_ok-listed.ensures.few _ _ (c.eliminate.auto.chosen ∙ for_lost _ c.requires.0 _ c.in_ok-listed.ensures.few) c.give_sets.ensures.given _ c.list_checks-tests.ensures),
 )

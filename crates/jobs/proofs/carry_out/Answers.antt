@@ -1,12 +1,9 @@
--- `jobs::carry_out` meets its contract. The job that was read is answered as the rebuild of its lost cells is.
-use mathlib.Core.Path.{subst}
-use Rattle.format.specs.Reading.{Reads}
-use Rattle.jobs.proofs.Answering.{answers_given, answers_refused}
+-- `jobs::carry_out` meets its contract. The job is answered as the rebuild of its lost cells is.
+use Rattle.jobs.proofs.Answering.{carried_given, carried_refused}
 use Rattle.jobs.proofs.carry_out.Goals as goal
 
 pub returns-in_err-rebuild_job : goal.returns-in_err-rebuild_job
-returns-in_err-rebuild_job c =
-    answers_refused _ _ (subst (Reads c.args.input.now) c.in_ok-f.ensures.ok_part c.read_job.ensures) _ _ c.in_err-rebuild_job.ensures _ c.from_residual-in_err-rebuild_job.ensures.1
+returns-in_err-rebuild_job c = λ j h. carried_refused j _ _ (c.in_err-rebuild_job.ensures j h) _ c.from_residual.ensures.1
 
 pub returns : goal.returns
-returns c = answers_given _ _ (subst (Reads c.args.input.now) c.in_ok-f.ensures.ok_part c.read_job.ensures) _ c.in_ok-rebuild_job.ensures
+returns c = λ j h. carried_given j _ (c.in_ok-rebuild_job.ensures j h)

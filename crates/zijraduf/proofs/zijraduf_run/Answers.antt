@@ -2,4 +2,4 @@
 use Rattle.zijraduf.proofs.zijraduf_run.Goals as goal
 
 pub returns : goal.returns
-returns c = record { shape = c.into.result; is = c.into.ensures; so = record { given = c.run.result; allowed = c.run.ensures; is = c.into-2.ensures } }
+returns c = record { shape = c.into.result; is = c.into.ensures; so = record { given = c.run-answer.result; allowed = c.run-answer.ensures; is = c.into-2.ensures } }
