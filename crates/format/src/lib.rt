@@ -101,7 +101,9 @@ fn read_numbers(input: &[u8]) -> Option<(Shape, &[u8])>
 fn read_tail(bytes: &[u8]) -> Option<(&[[u8; 2]], &[u8])>
     ensures { MatchOption result (NoTail bytes.now) (λ p. Ends bytes.now p.0.now p.1.now) }
 {
-    let (content, rest) = find_field(bytes, Tag::Lost, MOST_LOST_BYTES)?;
+    let Some((content, rest)) = find_field(bytes, Tag::Lost, MOST_LOST_BYTES) else {
+        return None;
+    };
     let (lost, []) = content.as_chunks::<2>() else {
         return None;
     };

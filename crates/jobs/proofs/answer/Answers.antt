@@ -1,6 +1,8 @@
 -- `jobs::answer` meets its contract. Where there is no job the answer says so; else it is that of carrying out the job. No answer is longer than
 -- 32,775 bytes.
 use mathlib.Core.Path.{refl, subst}
+use native.Mathlib.Omega.{arith}
+use Rattle.format.specs.Format.{two_bytes_of, field, answer_bytes}
 use Rattle.format.specs.Reading.{Reads}
 use Rattle.jobs.specs.Answer.{no_job}
 use Rattle.jobs.proofs.AnswerFacts.{output_most}
@@ -8,7 +10,8 @@ use Rattle.jobs.proofs.Answering.{answers_job}
 use Rattle.jobs.proofs.answer.Goals as goal
 
 pub write_answer-requires : goal.write_answer-requires
-write_answer-requires c = output_most c.args.input.now _ (no_job (subst (Reads _) c.in_default.is c.read_job.ensures) refl)
+unfolding answer_bytes field two_bytes_of
+write_answer-requires c = omega arith
 
 pub returns-in_default : goal.returns-in_default
 returns-in_default c = record {
