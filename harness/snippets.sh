@@ -26,10 +26,10 @@ snippet() {
     [ -s "$2" ] || { echo "README.md has no snippet of the kind $1" >&2; exit 1; }
 }
 
-# The header says what the library needs from outside, and nothing else.
-needs=$(nm -u "$LIB" | awk '$1 == "U" { print $2 }' | sort | tr '\n' ' ')
-[ "$needs" = 'memcpy memset ' ] || { echo "the library needs $needs" >&2; exit 1; }
-echo "the library needs memcpy and memset, as the header says"
+# The library needs from outside what the header says, and nothing else.
+needs=$(nm -u "$LIB" | awk '$1 == "U" { print $2 }' | sort | sed ':a;N;$!ba;s/\n/ and /g')
+grep -q -F "; it needs $needs)" "$ROOT/include/zijraduf.h" || { echo "the header doesn't say that the library needs $needs" >&2; exit 1; }
+echo "the library needs $needs, as the header says"
 
 # What a reader must believe is listed in the README, file by file.
 believe=$(awk '$0 == "## What to believe" { inside = 1; next } /^## / { inside = 0 } inside' "$ROOT/README.md")
